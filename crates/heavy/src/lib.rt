@@ -24,8 +24,7 @@ pub use hh_pool::MAX_WORKERS;
 pub use hh_records::{Column, Layout, LayoutWords, Records, layout_of, read_stream};
 pub use hh_reports::{report_rows, run_report};
 pub use hh_rows::{
-    Out, ReportFault, ReportOptions, RowOptions, Share, Sink, SinkFault, Tree, put, report_text,
-    write_report,
+    Out, ReportOptions, RowOptions, Share, Sink, SinkFault, Tree, put, report_text, write_report,
 };
 pub use hh_saved::Place;
 pub use hh_stream::KeyHash;

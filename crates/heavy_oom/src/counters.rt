@@ -5,7 +5,7 @@ ghost use Rattle.std.specs.Prelude.{◌≡◌, length};
 use crate::lab::{Lab, Said, marked};
 use crate::monitors;
 use crate::show::{Counters, Numbers};
-use hh_counters::{AddFault, Candidates, MergeFault, OfItemsFault, Summary};
+use hh_counters::{AddFault, Candidates, MergeFault, NewFault, Summary};
 use hh_stream::{Key, Stream};
 use std::test::Fail;
 
@@ -46,7 +46,7 @@ fn added(lab: &Lab, summary: &mut Summary, key: &Key) -> Result<Said, Fail> {
 fn summary_of_items(lab: &Lab) -> Result<Said, Fail> {
     let stream = lab.stream()?;
     let made = marked!(lab, Summary::of_items(lab.alloc, 2, stream.items()));
-    lab.tell(made, OfItemsFault::Memory)
+    lab.tell(made, NewFault::Memory)
 }
 
 // The summary of c 7.

@@ -1,8 +1,8 @@
 //! The texts of the libraries' own faults; those of the program are shown by runs of it.
 
 use crate::fixtures::assert_same;
-use heavy::{BadRecordCause, ConfirmFault, ReportFault, SinkFault, TextError, WriteFault};
-use hh_counters::{AddFault, BadK, MergeFault, NewFault, OfItemsFault};
+use heavy::{BadRecordCause, ConfirmFault, SinkFault, TextError, WriteFault};
+use hh_counters::{AddFault, BadK, MergeFault, NewFault};
 use hh_countmin::{DrawFault, PartsFault, TableFault, TotalTooLarge};
 use hh_pool::{OptionsFault, PlanFault, RunError};
 use hh_stream::{CuttingFault, KeyFault, PushFault};
@@ -65,11 +65,6 @@ const BAD_K: [(BadK, &str); 1] = [(BadK, K)];
 
 const NEW: [(NewFault, &str); 2] = [(NewFault::BadK, K), (NewFault::Memory, MEMORY)];
 
-const OF_ITEMS: [(OfItemsFault, &str); 2] = [
-    (OfItemsFault::BadK, K),
-    (OfItemsFault::Memory, MEMORY),
-];
-
 const ADDED: [(AddFault, &str); 2] = [(AddFault::TotalTooLarge, TOTAL), (AddFault::Memory, MEMORY)];
 
 const SUMMARIES: [(MergeFault, &str); 3] = [
@@ -82,7 +77,6 @@ const SUMMARIES: [(MergeFault, &str); 3] = [
 fn faults_of_summaries(rt: HostRuntime) {
     tell(&rt, &BAD_K);
     tell(&rt, &NEW);
-    tell(&rt, &OF_ITEMS);
     tell(&rt, &ADDED);
     tell(&rt, &SUMMARIES);
 }
@@ -173,11 +167,6 @@ const SINKS: [(SinkFault, &str); 1] = [(SinkFault, "the sink could not do what i
 
 const WRITES: [(WriteFault, &str); 1] = [(WriteFault { written: 3 }, OUTPUT)];
 
-const REPORTS: [(ReportFault, &str); 2] = [
-    (ReportFault::WriteFault { written: 3 }, OUTPUT),
-    (ReportFault::Memory, MEMORY),
-];
-
 const CONFIRMED: [(ConfirmFault, &str); 2] = [
     (
         ConfirmFault::TotalDiffers,
@@ -191,6 +180,5 @@ fn faults_of_single_steps(rt: HostRuntime) {
     tell(&rt, &READS);
     tell(&rt, &SINKS);
     tell(&rt, &WRITES);
-    tell(&rt, &REPORTS);
     tell(&rt, &CONFIRMED);
 }

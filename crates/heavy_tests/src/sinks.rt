@@ -2,7 +2,7 @@
 
 use crate::devices::{FaultyWriter, Manner};
 use crate::fixtures::assert_same;
-use heavy::{Heavy, Out, ReportFault, Sink, WriteFault, put, write_report};
+use heavy::{Heavy, Out, Sink, ToolError, WriteFault, put, write_report};
 use hh_stream::Key;
 use std::process::Abort;
 
@@ -71,7 +71,7 @@ fn row(rt: &(impl Abort + AllocGlobal), letter: u8, weight: u64) -> Heavy {
 }
 
 /// What a writer takes of the rows of `a` and `b`, and the fault.
-fn report_to(rt: &(impl Abort + AllocGlobal), manner: Manner) -> (Vec<u8>, Option<ReportFault>) {
+fn report_to(rt: &(impl Abort + AllocGlobal), manner: Manner) -> (Vec<u8>, Option<ToolError>) {
     let rows = [row(rt, b'a', 6), row(rt, b'b', 3)];
     let mut taken = Vec::new(rt.alloc());
     let mut out = Out::new(FaultyWriter::new(manner, &mut taken));
@@ -90,7 +90,7 @@ fn rows_of_a_report_are_written(rt: HostRuntime) {
         (Manner::without_flush(), Some(8)),
     ] {
         let (taken, fault) = report_to(&rt, *manner);
-        let expected = written.map(|written| ReportFault::WriteFault { written });
+        let expected = written.map(|written| ToolError::WriteFault { written });
         assert_same(&rt, fault, expected);
         let len = written.unwrap_or(8) as usize;
         assert_same(&rt, Some(taken.as_slice()), b"a,6\nb,3\n".get(..len));

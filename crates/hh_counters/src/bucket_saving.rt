@@ -14,12 +14,11 @@ ghost use Rattle.hh_counters.specs.Buckets.{HasFreshFirst, IsTakenIn, BoundCount
 use crate::monitor::Monitor;
 use crate::shared_key::SharedKey;
 use hh_stream::{BorrowedKey, Key, KeyHash, MAX_TOTAL, in_range};
-use hh_summaries::{AddFault, MAX_K, Summary, push_copy};
+use hh_summaries::{AddFault, MAX_K, NewFault, Summary, push_copy};
 use indexmap::IndexMap;
 use std::alloc::{AllocError, Global};
 use std::collections::BTreeSet;
 use std::marker::Model;
-use thiserror::Error;
 
 /// Space-Saving with the monitored keys in buckets by counters that they had, so that the key to
 /// drop is soon found. Hits are gathered: an item whose key is monitored only raises the key's
@@ -55,17 +54,6 @@ impl Model for BucketSaving {
     ghost view = { λ s. record { k = s.k; total = s.total; counters = tally s.index.entries } };
 
     ghost invariant = { λ s. IsLinked s.k s.total s.index.entries s.buckets };
-}
-
-/// Why there is no new Space-Saving: the first of these that holds.
-#[derive(Clone, Copy, Debug, PartialEq, Eq, Error)]
-pub enum NewFault {
-    /// k is not 1 to [`MAX_K`].
-    #[error("k must be 1 to 65535")]
-    BadK,
-    /// The allocator had no memory.
-    #[error("out of memory")]
-    Memory,
 }
 
 // The keys that are monitored, each with its counter.

@@ -14,11 +14,11 @@ mod shared_key;
 mod space_saving;
 mod taking;
 
-pub use bucket_saving::{BucketSaving, NewFault};
+pub use bucket_saving::BucketSaving;
 pub use candidate_counts::CandidateCounts;
 pub use candidates::Candidates;
 pub use counts::Counts;
-pub use hh_summaries::{AddFault, BadK, MAX_K, MergeFault, OfItemsFault, Summary};
+pub use hh_summaries::{AddFault, BadK, MAX_K, MergeFault, NewFault, Summary};
 pub use monitor::{Monitor, monitored_summary};
 pub use report::{Heavy, MAX_Q, is_threshold};
 pub use space_saving::SpaceSaving;

@@ -10,7 +10,8 @@ ghost use Rattle.hh_pieces.specs.Sources.{sources_known};
 ghost use Rattle.hh_records.specs.Refusals.{RecordsRefused};
 ghost use Rattle.hh_workers.specs.Workers.{max_workers};
 ghost use Rattle.hh_reports.specs.Report.{AreOptions, ReportsKeys};
-ghost use Rattle.hh_reports.specs.Report.{StartRefused, bad_option, failed_by};
+ghost use Rattle.hh_reports.specs.Report.{StartRefused, bad_option};
+ghost use Rattle.hh_rows.specs.Sinks.{failed_by};
 ghost use Rattle.hh_files.specs.ReportFiles.{AreKeysOfPieces, FilesRefused, FindsKeys, IfKnown, IsPrintedOfFiles};
 
 use crate::file_pieces::FilePieces;
@@ -21,8 +22,8 @@ use hh_faults::ToolError;
 use hh_pieces::{CutFiles, ReadAt, SourceRecords};
 use hh_pool::{Options, PieceFault, report_pieces};
 use hh_records::ReadRecords;
-use hh_reports::{Prepared, piece_count, prepare, write_keys};
-use hh_rows::{ReportOptions, RowOptions, Sink};
+use hh_reports::{Prepared, piece_count, prepare};
+use hh_rows::{ReportOptions, RowOptions, Sink, write_printed};
 use hh_stream::KeyHash;
 use std::alloc::{AllocError, Global};
 use std::sync::Wait;
@@ -182,5 +183,5 @@ pub fn report_files<T: Threads + Wait + Sync, F: ReadAt + Sync, S: Sink>(
     ensures failed { S.has_failed sink.new ≡ failed_by result }
 {
     let (total, keys) = reported_of_files(rt, alloc, options, records)?;
-    write_keys(alloc, sink, rows, total, &keys)
+    write_printed(alloc, sink, total, rows, &keys)
 }

@@ -1,6 +1,6 @@
 //! Where the key and the weight of a record stand.
 
-ghost use Rattle.std.specs.Prelude.{◌≡◌, [], map, option_map, Some, None, Ok, Err, true, IfOk, IfErr, IfSome};
+ghost use Rattle.std.specs.Prelude.{◌≡◌, map, option_map, Some, None, Ok, Err, IfOk, IfErr, IfSome};
 ghost use Rattle.csv.specs.Records.{fields_of};
 ghost use Rattle.hh_records.specs.Layouts.{ColumnsRefused, IsPlain, NamesColumn, chosen_columns, chosen_places, columns_among};
 ghost use Rattle.hh_records.specs.Layouts.{delimiter_of, field_names, key_places, member_names, name_of, named_from};

@@ -3,9 +3,10 @@ use Rattle.std.proofs.Common.{◌≡◌, ℕ, List, Option, Some, None, Result, 
 use Rattle.std.specs.Prelude.{IfErr, IfSome, OnOk}
 use Rattle.std.specs.Io.KnownBytes.{Appends}
 use Rattle.hh_rows.specs.Printed.{plain_rows}
+use Rattle.hh_rows.specs.Sinks.{TextNotWritten}
 use Rattle.hh_records.specs.Streams.{Known}
 use Rattle.hh_rows.specs.declared.printed.RowOptions.{RowOptions}
-use Rattle.hh_reports.specs.Report.{AreOptions, AreWritten, IsPrinted, IsReported, KeysNotWritten, PrintRefused, ReportRefused, WriteRefused}
+use Rattle.hh_reports.specs.Report.{AreOptions, AreWritten, IsPrinted, IsReported, PlanNotMade, PrintRefused, ReportRefused, StartRefused, WriteRefused, bad_option}
 use Rattle.hh_rows.specs.declared.report_options.ReportOptions.{ReportOptions}
 use Rattle.hh_faults.specs.declared.error.ToolError.{ToolError}
 use Rattle.hh_faults.specs.declared.error.ToolError.TheVariants as tool
@@ -19,6 +20,13 @@ pub fault_is : (A B : Type 0) {E : Type 0} (o : Option E) (e : E) → IfSome o (
 fault_is A B None e h = tt
 fault_is A B (Some f) e h = ap Err (fault_same A e f h)
 
+-- options whose tree has no plan are refused
+pub no_plan : (o : ReportOptions) (known : Known) (e : ToolError) → bad_option o ≡ None → PlanNotMade o.tree o.pieces e
+    → StartRefused o known e
+no_plan o known (tool.BadTree f) passes h = (passes, h)
+no_plan o known tool.Memory passes h = passes
+no_plan o known e passes h = absurd h
+
 -- rows of which something holds are written whole, where their text is
 module _ {T : Type 0} (o : ReportOptions) (are : AreOptions o) (holds : List ℕ → Type 0) (text : List ℕ) (it : holds text)
     (old new : Option (List ℕ)) where
@@ -27,7 +35,7 @@ module _ {T : Type 0} (o : ReportOptions) (are : AreOptions o) (holds : List ℕ
   keys_written (Ok x) h = (are, text, it, h)
   keys_written (Err e) h = tt
 
-  pub keys_not_written : (known : Known) (result : Result T ToolError) → IfErr result (KeysNotWritten text old new)
+  pub keys_not_written : (known : Known) (result : Result T ToolError) → IfErr result (TextNotWritten text old new)
       → IfErr result (WriteRefused o known holds old new)
   keys_not_written known (Ok x) h = tt
   keys_not_written known (Err (tool.WriteFault n)) h = (are, text, it, h)

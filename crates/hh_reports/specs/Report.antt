@@ -1,5 +1,5 @@
 -- What a report leaves in a sink, and what its refusals tell.
-use Rattle.std.specs.Prelude.{◌≡◌, ◌-◌, not, ℕ, List, Bool, true, false, Option, Some, None, is_none, Result, Ok, Err, ⊤, if◌then◌else◌}
+use Rattle.std.specs.Prelude.{◌≡◌, ◌-◌, not, ℕ, List, Option, Some, None, is_none, Ok, ⊤, if◌then◌else◌}
 use Rattle.std.specs.Io.KnownBytes.{Appends, Keeps}
 use Rattle.hh_stream.specs.Cuttings.{max_pieces}
 use Rattle.hh_stream.specs.Weights.{Entry, total_of}
@@ -28,12 +28,6 @@ use Rattle.hh_reports.specs.declared.report.Prepared.{Prepared}
 use Rattle.hh_rows.specs.declared.report_options.ReportOptions.{ReportOptions}
 use Rattle.hh_rows.specs.declared.report_options.Tree.{Tree}
 use Rattle.hh_rows.specs.declared.report_options.Tree.TheVariants as tree
-
--- whether a command failed by its sink
-abbrev pub failed_by : {T : Type 0} → Result T ToolError → Bool
-failed_by (Err (tool.WriteFault n)) = true
-failed_by (Err _) = false
-failed_by (Ok x) = false
 
 -- the first test that options fail, before their tree
 abbrev pub bad_option : ReportOptions → Option ToolError
@@ -89,6 +83,12 @@ TreeRefused tree.Chain pieces f = ⊥
 TreeRefused tree.Balanced pieces f = ⊥
 TreeRefused (tree.Text t) pieces f = PlanRefused t.items pieces (plan_fault f)
 
+-- what a refusal to make the plan of a tree tells
+abbrev pub PlanNotMade : Tree → ℕ → ToolError → Type 0
+PlanNotMade t pieces (tool.BadTree f) = TreeRefused t pieces f
+PlanNotMade t pieces tool.Memory = ⊤
+PlanNotMade t pieces _ = ⊥
+
 -- the options pass all tests
 abbrev pub AreOptions : ReportOptions → Type 0
 AreOptions o = (bad_option o ≡ None) × IsTree o.tree o.pieces
@@ -111,12 +111,6 @@ pub record IsPrepared (o : ReportOptions) (prepared : Prepared) : Type 0 where
   pub threshold : threshold_of o.k o.threshold ≡ Some (prepared.p, prepared.q)
   pub share : IsShare prepared.p prepared.q
   pub settings : prepared.settings ≡ settings_of o prepared.p prepared.q
-
--- what a refusal to write the rows of some keys tells, and what it leaves in the sink
-abbrev pub KeysNotWritten : List ℕ → Option (List ℕ) → Option (List ℕ) → ToolError → Type 0
-KeysNotWritten rows old new (tool.WriteFault n) = TakesFirst old new rows n
-KeysNotWritten rows old new tool.Memory = Keeps old new
-KeysNotWritten rows old new _ = ⊥
 
 -- these are the rows of the keys of a report
 abbrev pub ReportsRows : ReportOptions → Known → List ℕ → Type 0

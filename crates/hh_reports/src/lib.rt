@@ -3,6 +3,4 @@
 
 mod report;
 
-pub use report::{
-    Prepared, check_options, piece_count, prepare, report_rows, run_report, write_keys,
-};
+pub use report::{Prepared, check_options, piece_count, prepare, report_rows, run_report};

@@ -7,23 +7,22 @@ ghost use Rattle.hh_workers.specs.Workers.{max_workers};
 ghost use Rattle.hh_summaries.specs.Report.{IsShare, heavy};
 ghost use Rattle.hh_stream.specs.Ranges.{in_range};
 ghost use Rattle.hh_stream.specs.Weights.{Entry, total_of};
-ghost use Rattle.std.specs.Io.KnownBytes.{Appends};
-ghost use Rattle.hh_rows.specs.Printed.{printed_rows};
 ghost use Rattle.hh_records.specs.Layouts.{records_known};
 ghost use Rattle.hh_records.specs.Streams.{Known, ReadsAs, text_known};
 ghost use Rattle.hh_rows.specs.Thresholds.{threshold_of};
 ghost use Rattle.hh_records.specs.Refusals.{RecordsRefused};
 ghost use Rattle.hh_reports.specs.Report.{AreKeysOf, AreOptions, IsOptionFault, IsPrinted, IsReported, Names};
 ghost use Rattle.hh_reports.specs.Report.{PrintRefused, ReportRefused};
-ghost use Rattle.hh_reports.specs.Report.{IsPrepared, KeysNotWritten, ReportsKeys, StartRefused, TreeRefused, bad_option};
-ghost use Rattle.hh_reports.specs.Report.{failed_by, settings_of};
+ghost use Rattle.hh_reports.specs.Report.{IsPrepared, PlanNotMade, ReportsKeys, StartRefused, bad_option};
+ghost use Rattle.hh_reports.specs.Report.{settings_of};
+ghost use Rattle.hh_rows.specs.Sinks.{failed_by};
 
 use hh_counters::{Heavy, MAX_K};
 use hh_countmin::{Family, MAX_DEPTH, MAX_WIDTH};
 use hh_faults::{ToolError, TreeFault};
 use hh_pool::{MAX_WORKERS, OpenGate, Options, Plan, PlanFault, RunError, analyse};
 use hh_records::{Records, read_records};
-use hh_rows::{ReportFault, ReportOptions, RowOptions, Sink, Tree, threshold_of, write_printed};
+use hh_rows::{ReportOptions, RowOptions, Sink, Tree, threshold_of, write_printed};
 use hh_stream::{Cutting, KeyHash, MAX_PIECES, Stream, in_range};
 use std::alloc::{AllocError, Global};
 use std::io::Read;
@@ -61,33 +60,29 @@ pub fn check_options(options: &ReportOptions) -> Result<(u64, u64), ToolError>
     Ok(threshold)
 }
 
-/// Why there is no plan.
-#[derive(Drop)]
-enum NoPlan {
-    Bad(TreeFault),
-    Memory,
-}
-
 /// The plan of a tree over `pieces` pieces.
-fn plan_of(alloc: Global, tree: &Tree, pieces: usize) -> Result<Plan, NoPlan>
+fn plan_of(alloc: Global, tree: &Tree, pieces: usize) -> Result<Plan, ToolError>
     requires { in_range pieces max_pieces ≡ true }
     ensures pieces { IfOk result (λ plan. length (leaves plan) ≡ pieces) }
     ensures tree { IfOk result (λ plan. Names tree.now pieces plan) }
-    ensures refused { (fault : TreeFault) → result ≡ Err (NoPlan.Bad fault)
-        → TreeRefused tree.now pieces fault }
+    ensures refused { IfErr result (PlanNotMade tree.now pieces) }
 {
     match tree {
-        Tree::Chain => Plan::chain(alloc, pieces).map_err(|_| NoPlan::Memory),
-        Tree::Balanced => Plan::balanced(alloc, pieces).map_err(|_| NoPlan::Memory),
+        Tree::Chain => Ok(Plan::chain(alloc, pieces)?),
+        Tree::Balanced => Ok(Plan::balanced(alloc, pieces)?),
         Tree::Text(text) => match Plan::parse(alloc, text, pieces) {
             Ok(plan) => Ok(plan),
-            Err(PlanFault::Syntax(at)) => Err(NoPlan::Bad(TreeFault::Syntax(at))),
-            Err(PlanFault::UnknownPiece(piece)) => Err(NoPlan::Bad(TreeFault::UnknownPiece(piece))),
-            Err(PlanFault::RepeatedPiece(piece)) => {
-                Err(NoPlan::Bad(TreeFault::RepeatedPiece(piece)))
+            Err(PlanFault::Syntax(at)) => Err(ToolError::BadTree(TreeFault::Syntax(at))),
+            Err(PlanFault::UnknownPiece(piece)) => {
+                Err(ToolError::BadTree(TreeFault::UnknownPiece(piece)))
             }
-            Err(PlanFault::MissingPiece(piece)) => Err(NoPlan::Bad(TreeFault::MissingPiece(piece))),
-            Err(PlanFault::Memory) => Err(NoPlan::Memory),
+            Err(PlanFault::RepeatedPiece(piece)) => {
+                Err(ToolError::BadTree(TreeFault::RepeatedPiece(piece)))
+            }
+            Err(PlanFault::MissingPiece(piece)) => {
+                Err(ToolError::BadTree(TreeFault::MissingPiece(piece)))
+            }
+            Err(PlanFault::Memory) => Err(ToolError::Memory),
         },
     }
 }
@@ -183,11 +178,7 @@ pub fn prepare(alloc: Global, options: &ReportOptions, hash: KeyHash) -> Result<
     ensures bad_option { IfSome (bad_option options.now) (λ fault. result ≡ Err fault) }
 {
     let (p, q) = check_options(options)?;
-    let plan = match plan_of(alloc, &options.tree, options.pieces as usize) {
-        Ok(plan) => plan,
-        Err(NoPlan::Bad(fault)) => return Err(ToolError::BadTree(fault)),
-        Err(NoPlan::Memory) => return Err(ToolError::Memory),
-    };
+    let plan = plan_of(alloc, &options.tree, options.pieces as usize)?;
     let settings = settings_of(alloc, options, p, q, hash)?;
     Ok(Prepared {
         plan,
@@ -214,29 +205,6 @@ fn reported<T: Threads + Wait + Sync, R: Read + Drop>(
     match prepare(alloc, options, records.layout.hash) {
         Ok(prepared) => keys_of_stream(rt, alloc, records, &prepared.plan, &prepared.settings),
         Err(fault) => Err(fault),
-    }
-}
-
-/// Writes the rows of some keys with their total, as the options of rows want them.
-pub fn write_keys<S: Sink>(
-    alloc: Global,
-    sink: &mut S,
-    rows: &RowOptions,
-    total: u64,
-    keys: &[Heavy],
-) -> Result<(), ToolError>
-    requires { S.has_failed sink.old ≡ false }
-    ensures all { OnOk result (Appends (S.taken sink.old) (S.taken sink.new)
-        (printed_rows total rows.now keys.now)) }
-    ensures refused { IfErr result (KeysNotWritten (printed_rows total rows.now keys.now)
-        (S.taken sink.old) (S.taken sink.new)) }
-    ensures flushed { OnOk result (S.is_flushed sink.new ≡ true) }
-    ensures failed { S.has_failed sink.new ≡ failed_by result }
-{
-    match write_printed(alloc, sink, total, rows, keys) {
-        Ok(()) => Ok(()),
-        Err(ReportFault::WriteFault { written }) => Err(ToolError::WriteFault { written }),
-        Err(ReportFault::Memory) => Err(ToolError::Memory),
     }
 }
 
@@ -299,5 +267,5 @@ pub fn report_rows<T: Threads + Wait + Sync, R: Read + Drop, S: Sink>(
     ensures failed { S.has_failed sink.new ≡ failed_by result }
 {
     let (total, keys) = reported(rt, alloc, options, records)?;
-    write_keys(alloc, sink, rows, total, &keys)
+    write_printed(alloc, sink, total, rows, &keys)
 }

@@ -1,14 +1,10 @@
 -- The rows that are printed of a report.
 use Rattle.std.specs.Prelude.{ℕ, false, ◌*◌, ◌/◌, ◌==◌, Bool, List, [], ◌∷◌, take, Option, Some, None, if◌then◌else◌}
 use Rattle.std.specs.List.{flat_map}
-use Rattle.std.specs.Io.KnownBytes.{Keeps}
 use Rattle.csv.specs.Writing.{default_writer, row_text}
 use Rattle.hh_stream.specs.Weights.{Entry}
 use Rattle.hh_records.specs.Decimals.{pointed}
-use Rattle.hh_rows.specs.Sinks.{TakesFirst}
 use Rattle.hh_rows.specs.declared.printed.RowOptions.{RowOptions}
-use Rattle.hh_rows.specs.declared.rows.ReportFault.{ReportFault}
-use Rattle.hh_rows.specs.declared.rows.ReportFault.TheVariants as fault
 
 -- a weight's share of a total in millionths, rounded down; of no total it is none
 abbrev pub millionths : ℕ → ℕ → ℕ
@@ -40,8 +36,3 @@ printed_rows total options es = flat_map (printed_row total options) (topmost op
 -- all rows, of whole numbers, and no shares
 abbrev pub plain_rows : RowOptions
 plain_rows = record { top = None; share = false; decimals = 0 }
-
--- what a refusal to write a text leaves in a sink, and that `written` counts bytes of this text
-abbrev pub TextRefused : List ℕ → Option (List ℕ) → Option (List ℕ) → ReportFault → Type 0
-TextRefused text old new (fault.WriteFault n) = TakesFirst old new text n
-TextRefused text old new fault.Memory = Keeps old new

@@ -1,16 +1,12 @@
 -- The rows of a report.
-use Rattle.std.specs.Prelude.{◌≡◌, ℕ, Bool, true, false, List, [], ◌∷◌, ◌++◌, Option, Result, Ok, Err, if◌then◌else◌}
+use Rattle.std.specs.Prelude.{◌≡◌, ℕ, Bool, false, List, [], ◌∷◌, ◌++◌, if◌then◌else◌}
 use Rattle.std.specs.List.{flat_map}
-use Rattle.std.specs.Io.KnownBytes.{Keeps}
 use Rattle.csv.specs.Machine.{line_feed}
 use Rattle.csv.specs.Reading.{is_bom}
 use Rattle.csv.specs.Writing.{comma, default_writer, fields_written, has_written, quoted, row_text, writer_setup}
 use Rattle.csv.specs.declared.writer.Writer.{Writer}
 use Rattle.hh_stream.specs.Weights.{Bytes, Entry}
 use Rattle.hh_records.specs.Decimals.{pointed}
-use Rattle.hh_rows.specs.Sinks.{TakesFirst}
-use Rattle.hh_rows.specs.declared.rows.ReportFault.{ReportFault}
-use Rattle.hh_rows.specs.declared.rows.ReportFault.TheVariants as fault
 
 -- the text of one row: the key and the weight, in units of 10^-d, as csv's default writer writes them,
 -- and a line feed
@@ -56,14 +52,3 @@ condensed_text es = condensed_by 0 es
 abbrev pub IsBetweenRows : {W : Type 0} → Writer W → Type 0
 IsBetweenRows w =
     (fields_written w ≡ 0) × (has_written w ≡ false) × (writer_setup w ≡ default_writer)
-
--- what a refusal to write rows leaves in a sink, and that `written` counts bytes of these rows
-abbrev pub RowsRefused : List Entry → Option (List ℕ) → Option (List ℕ) → ReportFault → Type 0
-RowsRefused rows old new (fault.WriteFault n) = TakesFirst old new (rows_of rows) n
-RowsRefused rows old new fault.Memory = Keeps old new
-
--- whether the sink failed
-abbrev pub is_write_fault : {T : Type 0} → Result T ReportFault → Bool
-is_write_fault (Err (fault.WriteFault n)) = true
-is_write_fault (Err fault.Memory) = false
-is_write_fault (Ok x) = false

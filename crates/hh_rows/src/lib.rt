@@ -14,6 +14,6 @@ mod threshold;
 pub use hh_faults::WriteFault;
 pub use printed::{RowOptions, printed_text, write_printed};
 pub use report_options::{ReportOptions, Tree};
-pub use rows::{ReportFault, condensed_rows_text, condensed_text, report_text, write_report};
+pub use rows::{condensed_rows_text, condensed_text, report_text, write_report};
 pub use sink::{Out, Sink, SinkFault, put};
 pub use threshold::{Share, threshold_of};

@@ -3,15 +3,16 @@
 ghost use Rattle.std.specs.Prelude.{◌≡◌, false, true, Some, IfOk, IfErr, OnOk};
 ghost use Rattle.std.specs.Io.KnownBytes.{Appends};
 ghost use Rattle.csv.specs.Writing.{text_written};
-ghost use Rattle.hh_rows.specs.Printed.{TextRefused, millionths};
+ghost use Rattle.hh_rows.specs.Printed.{millionths};
 ghost use Rattle.hh_rows.specs.Printed.{plain_rows, printed_row, printed_rows, topmost};
-ghost use Rattle.hh_rows.specs.Rows.{IsBetweenRows, is_write_fault};
+ghost use Rattle.hh_rows.specs.Rows.{IsBetweenRows};
+ghost use Rattle.hh_rows.specs.Sinks.{TextNotWritten, failed_by};
 
-use crate::rows::{ReportFault, put_fields, text_of, write_row};
+use crate::rows::{put_fields, text_of, write_row};
 use crate::sink::{Sink, put};
 use csv::{Writer, WriterBuilder};
 use hh_counters::Heavy;
-use hh_faults::WriteFault;
+use hh_faults::ToolError;
 use hh_records::pointed;
 use std::alloc::{AllocError, Global};
 
@@ -112,20 +113,16 @@ pub fn write_printed<S: Sink>(
     total: u64,
     options: &RowOptions,
     rows: &[Heavy],
-) -> Result<(), ReportFault>
+) -> Result<(), ToolError>
     requires { S.has_failed sink.old ≡ false }
     ensures all { OnOk result (Appends (S.taken sink.old) (S.taken sink.new)
         (printed_rows total options.now rows.now)) }
-    ensures refused { IfErr result (λ fault. TextRefused (printed_rows total options.now rows.now)
-        (S.taken sink.old) (S.taken sink.new) fault) }
+    ensures refused { IfErr result (TextNotWritten (printed_rows total options.now rows.now)
+        (S.taken sink.old) (S.taken sink.new)) }
     ensures flushed { OnOk result (S.is_flushed sink.new ≡ true) }
-    ensures failed { S.has_failed sink.new ≡ is_write_fault result }
+    ensures failed { S.has_failed sink.new ≡ failed_by result }
 {
-    let Ok(text) = printed_text(alloc, total, options, rows) else {
-        return Err(ReportFault::Memory);
-    };
-    match put(sink, text.as_slice()) {
-        Ok(()) => Ok(()),
-        Err(WriteFault { written }) => Err(ReportFault::WriteFault { written }),
-    }
+    let text = printed_text(alloc, total, options, rows)?;
+    put(sink, text.as_slice())?;
+    Ok(())
 }

@@ -3,19 +3,19 @@
 ghost use Rattle.std.specs.Prelude.{◌≡◌, ◌++◌, false, true, IfOk, IfErr, OnOk, Some, map};
 ghost use Rattle.std.specs.Io.KnownBytes.{Appends, Keeps};
 ghost use Rattle.csv.specs.Writing.{default_writer, quoted, row_text, text_written};
-ghost use Rattle.hh_rows.specs.Rows.{IsBetweenRows, RowsRefused, condensed_by, condensed_text};
-ghost use Rattle.hh_rows.specs.Rows.{first_row_by, is_write_fault, quoted_row_by, row_by, rows_by};
+ghost use Rattle.hh_rows.specs.Rows.{IsBetweenRows, condensed_by, condensed_text};
+ghost use Rattle.hh_rows.specs.Rows.{first_row_by, quoted_row_by, row_by, rows_by};
 ghost use Rattle.hh_rows.specs.Rows.{rows_of};
+ghost use Rattle.hh_rows.specs.Sinks.{TextNotWritten, failed_by};
 
 use crate::sink::{Sink, put};
 use csv::{QuoteStyle, Writer, WriterBuilder};
 use hh_counters::Heavy;
-use hh_faults::WriteFault;
+use hh_faults::ToolError;
 use hh_records::pointed;
 use hh_stream::Key;
 use std::alloc::{AllocError, Global};
 use std::slice;
-use thiserror::Error;
 
 /// The three bytes of U+FEFF in UTF-8.
 const BYTE_ORDER_MARK: &[u8] = b"\xef\xbb\xbf";
@@ -146,31 +146,16 @@ pub fn condensed_rows_text(
     with_rows(alloc, first_row(alloc, first, decimals)?, rest, decimals)
 }
 
-/// Why rows were not written.
-#[derive(Clone, Copy, Debug, PartialEq, Eq, Error)]
-pub enum ReportFault {
-    /// The sink took this many bytes, and then failed.
-    #[error("output could not be written")]
-    WriteFault { written: u64 },
-    /// The allocator had no memory. Nothing was written.
-    #[error("out of memory")]
-    Memory,
-}
-
 /// Writes the rows of a report, as [`put`] writes [`report_text`].
-pub fn write_report<S: Sink>(alloc: Global, sink: &mut S, rows: &[Heavy]) -> Result<(), ReportFault>
+pub fn write_report<S: Sink>(alloc: Global, sink: &mut S, rows: &[Heavy]) -> Result<(), ToolError>
     requires { S.has_failed sink.old ≡ false }
     ensures all { OnOk result (Appends (S.taken sink.old) (S.taken sink.new) (rows_of rows.now)) }
-    ensures refused { IfErr result (λ fault.
-        RowsRefused rows.now (S.taken sink.old) (S.taken sink.new) fault) }
+    ensures refused { IfErr result
+        (TextNotWritten (rows_of rows.now) (S.taken sink.old) (S.taken sink.new)) }
     ensures flushed { OnOk result (S.is_flushed sink.new ≡ true) }
-    ensures failed { S.has_failed sink.new ≡ is_write_fault result }
+    ensures failed { S.has_failed sink.new ≡ failed_by result }
 {
-    let Ok(text) = report_text(alloc, rows) else {
-        return Err(ReportFault::Memory);
-    };
-    match put(sink, text.as_slice()) {
-        Ok(()) => Ok(()),
-        Err(WriteFault { written }) => Err(ReportFault::WriteFault { written }),
-    }
+    let text = report_text(alloc, rows)?;
+    put(sink, text.as_slice())?;
+    Ok(())
 }

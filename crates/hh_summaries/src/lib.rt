@@ -7,4 +7,4 @@ mod summary;
 mod taking;
 
 pub use entries::{add_entry, counter_of, cut, least_counter, level_of, lower_all, push_copy};
-pub use summary::{AddFault, BadK, MAX_K, MergeFault, OfItemsFault, Summary};
+pub use summary::{AddFault, BadK, MAX_K, MergeFault, NewFault, Summary};

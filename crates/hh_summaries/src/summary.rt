@@ -70,9 +70,9 @@ pub enum MergeFault {
     Memory,
 }
 
-/// Why there is no summary of the items: the first of these that holds.
+/// Why there is no new summary: the first of these that holds.
 #[derive(Clone, Copy, Debug, PartialEq, Eq, Error)]
-pub enum OfItemsFault {
+pub enum NewFault {
     /// k is not 1 to [`MAX_K`].
     #[error("k must be 1 to 65535")]
     BadK,
@@ -106,20 +106,20 @@ impl Summary {
     }
 
     /// The summary of the items, added one by one.
-    pub fn of_items(alloc: Global, k: u64, items: &[Item]) -> Result<Summary, OfItemsFault>
+    pub fn of_items(alloc: Global, k: u64, items: &[Item]) -> Result<Summary, NewFault>
         requires { total_of items.now ≤ max_total }
         ensures misra_gries { IfOk result (λ s. s ≡ sketch_of k items.now) }
-        ensures bad_k { IsErrOf result OfItemsFault.BadK ↔ (in_range k max_k ≡ false) }
+        ensures bad_k { IsErrOf result NewFault.BadK ↔ (in_range k max_k ≡ false) }
 
         // no items take no memory
         ensures nothing { items.now ≡ [] → in_range k max_k ≡ true → IsOk result }
     {
         let Ok(mut summary) = Summary::new(alloc, k) else {
-            return Err(OfItemsFault::BadK);
+            return Err(NewFault::BadK);
         };
         for item in items {
             let Ok(()) = summary.add_within(item.key().bytes(), item.weight()) else {
-                return Err(OfItemsFault::Memory);
+                return Err(NewFault::Memory);
             };
         }
         Ok(summary)

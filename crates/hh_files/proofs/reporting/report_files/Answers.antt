@@ -15,7 +15,7 @@ returns-clause-reported g c =
     keys_written o c.in_ok-total.ensures.keys.0 (PrintsFileRows r o known) text
     (printed_keys r o known.names_columns known.reading c.in_ok-total.total c.in_ok-total.keys.items text
     (ap (printed_rows c.in_ok-total.total r) c.deref.ensures.value) c.in_ok-total.ensures.keys.1) _ _
-    c.write_keys.result c.write_keys.ensures.all
+    c.write_printed.result c.write_printed.ensures.all
 
 pub returns-clause-refused : goal.returns-clause-refused
 returns-clause-refused g c =
@@ -26,4 +26,4 @@ returns-clause-refused g c =
     keys_not_written o c.in_ok-total.ensures.keys.0 (PrintsFileRows r o known) text
     (printed_keys r o known.names_columns known.reading c.in_ok-total.total c.in_ok-total.keys.items text
     (ap (printed_rows c.in_ok-total.total r) c.deref.ensures.value) c.in_ok-total.ensures.keys.1) _ _ known
-    c.write_keys.result c.write_keys.ensures.refused
+    c.write_printed.result c.write_printed.ensures.refused

@@ -11,8 +11,8 @@ returns-clause-reported g c =
     let known = records_known g.R.Read.remaining c.args.records in
     let text = printed_rows c.in_ok-total.total c.args.rows.now c.deref.result.now in
     keys_written c.args.options.now are (PrintsRows c.args.rows.now c.args.options.now known) text
-    (xs, c.in_ok-total.keys.items, keys, rw (c.deref.ensures.value, total) refl) _ _ c.write_keys.result
-    c.write_keys.ensures.all
+    (xs, c.in_ok-total.keys.items, keys, rw (c.deref.ensures.value, total) refl) _ _ c.write_printed.result
+    c.write_printed.ensures.all
 
 pub returns-clause-refused : goal.returns-clause-refused
 returns-clause-refused g c =
@@ -20,5 +20,5 @@ returns-clause-refused g c =
     let known = records_known g.R.Read.remaining c.args.records in
     let text = printed_rows c.in_ok-total.total c.args.rows.now c.deref.result.now in
     keys_not_written c.args.options.now are (PrintsRows c.args.rows.now c.args.options.now known) text
-    (xs, c.in_ok-total.keys.items, keys, rw (c.deref.ensures.value, total) refl) _ _ known c.write_keys.result
-    c.write_keys.ensures.refused
+    (xs, c.in_ok-total.keys.items, keys, rw (c.deref.ensures.value, total) refl) _ _ known c.write_printed.result
+    c.write_printed.ensures.refused
