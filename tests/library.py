@@ -10,13 +10,13 @@ usage: tests/library.py
 bin/install-library builds the library: in a few minutes after `rt ci` or `bin/heavy`. Where neither left the crates that
 it stands on, to prove them all takes long, so the header alone is compared, and that is said.
 """
+import itertools
 import os
 import re
 import shutil
 import subprocess
 import sys
 import tempfile
-import time
 import unittest
 from pathlib import Path
 
@@ -175,13 +175,16 @@ class Library(programs.Checks):
             both = programs.run([*words, folder, "9"], b"c\nc\n", env=env)
             self.check("a minute more", (both.status, both.out) == (0, b"c,3,3\na,2,2\nb,1,1\n\n"), both)
             with subprocess.Popen([*words, folder, "9", "0.2"], stdin=subprocess.PIPE, stdout=subprocess.PIPE, env=env) as ran:
-                for text in (b"d\nd", b"d\n", b"d\ne"):
+                for text, row in ((b"d\nd", b"d,1,1\n"), (b"d\n", b"dd,1,1\n")):
                     ran.stdin.write(text)
                     ran.stdin.flush()
-                    time.sleep(0.3)
-                told = ran.communicate()[0].split(b"\n\n")
-            last = b"c,3,3\na,2,2\nd,2,2\nb,1,1\ndd,1,1\ne,1,1"
-            self.check("parts of a stream", (ran.returncode, told[-2:]) == (0, [last, b""]) and len(told) > 3, told)
+                    lines = itertools.islice(iter(ran.stdout.readline, b""), 1000)
+                    self.check("a part of a stream", row in lines, row)
+                ran.stdin.write(b"d\ne")
+                ran.stdin.close()
+                told = ran.stdout.read()
+            last = b"\nc,3,3\na,2,2\nd,2,2\nb,1,1\ndd,1,1\ne,1,1\n\n"
+            self.check("the last part", ran.returncode == 0 and told.endswith(last), told)
             later = programs.run([programs.built("heavy_cli"), "summarise", "--k", "9"], b"x\n").out
             for i in range(59):
                 Path(folder, f"{10**19 + i}.heavy").write_bytes(later)

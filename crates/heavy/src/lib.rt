@@ -16,8 +16,7 @@ pub use hh_faults::{
 };
 pub use hh_files::{condense_files, confirm_files, report_files, summarise_files, table_files};
 pub use hh_library::{
-    ConfirmFault, add_items, ask_bytes, condense_bytes, confirm, confirm_bytes, summary_bytes,
-    table_bytes,
+    add_items, ask_bytes, condense_bytes, confirm, confirm_bytes, summary_bytes, table_bytes,
 };
 pub use hh_pieces::{GrowingFile, ReadAt, SourceRecords};
 pub use hh_pool::MAX_WORKERS;

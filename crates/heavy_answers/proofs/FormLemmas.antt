@@ -1,5 +1,5 @@
 -- A report in the form that is asked for.
-use Rattle.std.proofs.Common.{◌≡◌, ◌∙◌, ◌⊎◌, ℕ, Bool, List, [], Option, Some, None, inl, inr, ap, refl, subst}
+use Rattle.std.proofs.Common.{◌≡◌, ◌∙◌, ℕ, Bool, List, [], Option, Some, None, inl, inr, ap, refl, subst}
 use Rattle.std.specs.Io.KnownBytes.{Appends, Keeps}
 use Rattle.hh_output.specs.Outputs.{plain_output, rows_in}
 use Rattle.hh_output.specs.declared.output.Output.{Output}

@@ -1,6 +1,6 @@
 //! The calls of the libraries that answer a request.
 
-ghost use Rattle.std.specs.Prelude.{◌≡◌, ◌⊎◌, ◌∷◌, ℕ, map, option_map, None, Some, false, true, IfErr, IfOk, OnOk};
+ghost use Rattle.std.specs.Prelude.{◌≡◌, ◌∷◌, map, option_map, None, Some, false, true, IfErr, IfOk, OnOk};
 ghost use Rattle.hh_commands.specs.Files.{Refuses};
 ghost use Rattle.hh_commands.specs.Merge.{merged_files};
 ghost use Rattle.heavy_answers.specs.Answers.{AnswersCommand, IsAnswered, MakesMerge, OfRecords};
@@ -15,7 +15,7 @@ use crate::host::Host;
 use crate::kept::Kept;
 use crate::opening::{into_kept, open, open_records};
 use crate::single_pass::{SinglePass, in_one_pass};
-use heavy_host::{ReadFailure, read_file, read_files};
+use heavy_host::{read_file, read_files};
 use heavy_requests::{Command, Invocation, MEGABYTE, RecordWords, Request};
 use hh_commands::{Comparison, Method, ask_rows, describe_file, list_rows, merge_bytes};
 use hh_faults::ToolError;
@@ -28,28 +28,6 @@ use hh_workers::MAX_WORKERS;
 use std::sync::Wait;
 use std::thread::Threads;
 
-/// Converts the `fault` of reading a saved file into the error that the library gives for it.
-fn fault_of(fault: ReadFailure) -> ToolError
-    ensures unread { (number : ℕ) → fault ≡ ReadFailure.Unreadable number
-        → result ≡ ToolError.FileFault number }
-    ensures memory { fault ≡ ReadFailure.Memory → result ≡ ToolError.Memory }
-{
-    match fault {
-        ReadFailure::Unreadable { number } => ToolError::FileFault { number },
-        ReadFailure::Memory => ToolError::Memory,
-    }
-}
-
-/// Reads the saved file `name`, which is the first file of the command line. If it can't be read,
-/// the error is [`ToolError::FileFault`] with number 1.
-fn saved_file<H: Host>(host: &H, name: &[u8]) -> Result<Vec<u8>, ToolError>
-    ensures read { IfOk result (λ file. H.gives host.now name.now (Some file.items)) }
-    ensures refused { IfErr result (λ fault. (fault ≡ ToolError.Memory)
-        ⊎ (H.gives host.now name.now None × (fault ≡ ToolError.FileFault 1))) }
-{
-    read_file(host, 1, name).map_err(fault_of)
-}
-
 /// Reads the saved files `first` and `others`, merges them in this order and gives the bytes of the
 /// merged file. All files are read before any is tested, so a file that can't be read is refused
 /// before one whose bytes are wrong.
@@ -59,7 +37,7 @@ fn merged<H: Host>(host: &H, first: &[u8], others: &[Vec<u8>]) -> Result<Vec<u8>
     ensures refused { IfErr result (FilesFail (H.gives host.now)
         (first.now ∷ map (λ w. w.items) others.now) (λ files. Refuses (merged_files files))) }
 {
-    let files = read_files(host, first, others).map_err(fault_of)?;
+    let files = read_files(host, first, others)?;
     merge_bytes(host.alloc(), &files)
 }
 
@@ -151,13 +129,13 @@ fn bytes_of<T: Threads + Wait + Sync, H: Host>(
             file,
             keys,
             decimals,
-        } => ask_rows(alloc, &saved_file(host, file)?, keys, *decimals),
+        } => ask_rows(alloc, &read_file(host, 1, file)?, keys, *decimals),
         Command::List { file, decimals } => {
-            list_rows(alloc, &saved_file(host, file)?, *decimals)
+            list_rows(alloc, &read_file(host, 1, file)?, *decimals)
         }
-        Command::Describe { file } => describe_file(alloc, &saved_file(host, file)?),
+        Command::Describe { file } => describe_file(alloc, &read_file(host, 1, file)?),
         Command::Condense { file, workers } => {
-            let file = saved_file(host, file)?;
+            let file = read_file(host, 1, file)?;
             let command = SinglePass::Condense { file: &file };
             in_one_pass(threads, host, words, 1, *workers, &command, compared)
         }
@@ -167,7 +145,7 @@ fn bytes_of<T: Threads + Wait + Sync, H: Host>(
             rows,
             workers,
         } => {
-            let file = saved_file(host, file)?;
+            let file = read_file(host, 1, file)?;
             let command = SinglePass::Confirm {
                 file: &file,
                 share,

@@ -45,9 +45,8 @@ use hh_rows::{ReportOptions, Sink, report_text};
 use hh_saved::{Saved, read};
 use hh_shared::{SharedSums, SumSeat};
 use hh_stream::{Cutting, Key, PushRefused, Stream};
-use hh_summaries::{MergeFault, Summary};
+use hh_summaries::{Summary, SummaryFault};
 use hh_tally::Tally;
-use hh_workers::PlanFault;
 use json::Scratch;
 use std::alloc::{AllocError, Global};
 use std::io::Read;
@@ -71,7 +70,7 @@ pub fn stream_of_one(alloc: Global, key: Key, weight: u64) -> Result<Stream, Pus
 }
 
 /// Merges another summary into one, and tells how far a counter may be below its key's weight then.
-pub fn slack_of_both(one: &mut Summary, other: &Summary) -> Result<u64, MergeFault>
+pub fn slack_of_both(one: &mut Summary, other: &Summary) -> Result<u64, SummaryFault>
     ensures { OnOk result (one.new ≡ merge_of one.old other.now) }
 {
     one.merge(other)?;
@@ -176,7 +175,7 @@ pub fn add_once(sums: &SharedSums, seat: &mut SumSeat, amount: u64)
 }
 
 /// The plan that a text spells for three pieces.
-pub fn plan_of_three(alloc: Global, text: &[u8]) -> Result<Plan, PlanFault>
+pub fn plan_of_three(alloc: Global, text: &[u8]) -> Result<Plan, ToolError>
     ensures { IfOk result (λ plan. SpellsTree text.now plan) }
 {
     Plan::parse(alloc, text, 3)

@@ -1,8 +1,8 @@
 -- Files that are read, and the fault of one that is not.
 use Rattle.std.proofs.Common.{◌≡◌, ◌∙◌, ℕ, suc, ◌+◌, ◌<◌, ◌⊎◌, inl, inr, List, [], ◌∷◌, ◌++◌, Option, Some, None, map, take, length, slice_index_or, sym, ap, subst, arith}
 use Rattle.std.proofs.lemmas.List.{take_more, map-append, length-map, get_or-map}
-use Rattle.heavy_host.specs.declared.files.ReadFailure.{ReadFailure}
-use Rattle.heavy_host.specs.declared.files.ReadFailure.TheVariants.{Unreadable, Memory}
+use Rattle.hh_faults.specs.declared.error.ToolError.{ToolError}
+use Rattle.hh_faults.specs.declared.error.ToolError.TheVariants.{FileFault, Memory}
 use Rattle.heavy_host.specs.Files.{AreRead, TellsFile}
 
 -- a file more after those that are read
@@ -25,8 +25,8 @@ AreRead-next f gives first xs i d files file less read more =
 
 -- the fault of the next of the other files, by its number
 pub TellsFile-next : {X : Type 0} (f : X → List ℕ) (gives : List ℕ → Option (List ℕ) → Type 0) (first : List ℕ) (xs : List X) (i : ℕ) (d : X)
-    (fault : ReadFailure) → i < length xs
-    → (fault ≡ Memory) ⊎ ((fault ≡ Unreadable (i + 2)) × gives (f (slice_index_or xs i d)) None)
+    (fault : ToolError) → i < length xs
+    → (fault ≡ Memory) ⊎ ((fault ≡ FileFault (i + 2)) × gives (f (slice_index_or xs i d)) None)
     → TellsFile gives (first ∷ map f xs) fault
 TellsFile-next f gives first xs i d fault less (inl memory) = inl memory
 TellsFile-next f gives first xs i d fault less (inr unread) = inr (
@@ -34,6 +34,6 @@ TellsFile-next f gives first xs i d fault less (inr unread) = inr (
   record {
     within = omega (arith, length-map xs f);
     unread = subst (λ name. gives name None) (sym (get_or-map f xs i d [] less)) unread.1;
-    number = unread.0 ∙ ap Unreadable (omega arith);
+    number = unread.0 ∙ ap FileFault (omega arith);
   },
 )

@@ -6,6 +6,6 @@ mod files;
 mod standard;
 mod words;
 
-pub use files::{FileError, FileSource, ReadFailure, read_file, read_files};
+pub use files::{FileSource, read_file, read_files};
 pub use standard::{HeldNumbers, hold_closed};
 pub use words::{WordSource, after_first, bytes_of, read_words, texts_of};

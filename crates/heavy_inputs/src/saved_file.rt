@@ -3,8 +3,8 @@
 ghost use Rattle.std.specs.Prelude.{⊤};
 
 use crate::inputs::Inputs;
-use heavy_host::{FileError, FileSource};
-use std::alloc::Global;
+use heavy_host::FileSource;
+use std::alloc::{AllocError, Global};
 use std::fs::File;
 use std::io::{self, Read};
 
@@ -28,18 +28,16 @@ fn saved_bytes(rt: &HostRuntime, path: &str) -> io::Result<Vec<u8>> {
 impl<'a> FileSource for Inputs<'a> {
     ghost gives = { λ _ _ _. ⊤ };
 
-    fn bytes(&self, name: &[u8]) -> Result<Vec<u8>, FileError> {
+    fn bytes(&self, name: &[u8]) -> Result<Option<Vec<u8>>, AllocError> {
         let Ok(path) = str::from_utf8(name) else {
-            return Err(FileError::Unreadable);
+            return Ok(None);
         };
         match saved_bytes(self.rt, path) {
-            Ok(bytes) => Ok(bytes),
-            Err(error) if matches!(error.kind(), io::ErrorKind::OutOfMemory) => {
-                Err(FileError::Memory)
-            }
+            Ok(bytes) => Ok(Some(bytes)),
+            Err(error) if matches!(error.kind(), io::ErrorKind::OutOfMemory) => Err(AllocError),
             Err(error) => {
                 self.notes.unread.note(0, &error);
-                Err(FileError::Unreadable)
+                Ok(None)
             }
         }
     }

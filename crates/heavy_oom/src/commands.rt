@@ -3,7 +3,7 @@
 
 use crate::lab::{Lab, Said, marked, no_such_call};
 use crate::show::Hex;
-use heavy::{ConfirmFault, Method, Out, Sink, ToolError, confirm, put};
+use heavy::{Method, Out, Sink, ToolError, confirm, put};
 use hh_counters::Summary;
 use hh_stream::Stream;
 use std::test::Fail;
@@ -27,7 +27,7 @@ fn confirmed_many(lab: &Lab) -> Result<Said, Fail> {
 fn confirmed(lab: &Lab, stream: &Stream) -> Result<Said, Fail> {
     let summary = Summary::of_items(lab.alloc, 2, stream.items())?;
     let made = marked!(lab, confirm(lab.alloc, &summary, stream));
-    lab.tell(made, ConfirmFault::Memory)
+    lab.tell(made, ToolError::Memory)
 }
 
 // Bytes put into a sink, and the other calls that take no memory.

@@ -5,7 +5,7 @@ ghost use Rattle.std.specs.Prelude.{◌≡◌, length};
 use crate::lab::{Lab, Said, marked};
 use crate::monitors;
 use crate::show::{Counters, Numbers};
-use hh_counters::{AddFault, Candidates, MergeFault, NewFault, Summary};
+use hh_counters::{Candidates, Summary, SummaryFault};
 use hh_stream::{Key, Stream};
 use std::test::Fail;
 
@@ -40,13 +40,13 @@ fn add_twice(lab: &Lab, summary: &mut Summary, key: &Key) -> Result<Said, Fail> 
 fn added(lab: &Lab, summary: &mut Summary, key: &Key) -> Result<Said, Fail> {
     lab.show(Counters(summary))?;
     let made = marked!(lab, summary.add(key, 4).and(Ok(&*summary)));
-    lab.tell(made, AddFault::Memory)
+    lab.tell(made, SummaryFault::Memory)
 }
 
 fn summary_of_items(lab: &Lab) -> Result<Said, Fail> {
     let stream = lab.stream()?;
     let made = marked!(lab, Summary::of_items(lab.alloc, 2, stream.items()));
-    lab.tell(made, NewFault::Memory)
+    lab.tell(made, SummaryFault::Memory)
 }
 
 // The summary of c 7.
@@ -73,7 +73,7 @@ fn merged(lab: &Lab, summary: &mut Summary, other: &Summary) -> Result<Said, Fai
     lab.show(Counters(summary))?;
     lab.show(Counters(other))?;
     let made = marked!(lab, summary.merge(other).and(Ok(&*summary)));
-    lab.tell(made, MergeFault::Memory)
+    lab.tell(made, SummaryFault::Memory)
 }
 
 // The summary that is made without memory.

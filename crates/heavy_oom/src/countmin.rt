@@ -2,7 +2,7 @@
 
 use crate::lab::{Lab, Said, marked, no_such_call, told};
 use crate::show::{Cells, Numbers};
-use hh_countmin::{DrawFault, Family, PartsFault, Table, TableFault};
+use hh_countmin::{Family, Table, TableFault};
 use hh_stream::Key;
 use std::alloc::AllocError;
 use std::test::Fail;
@@ -13,7 +13,7 @@ const ROWS: [(u64, u64); 2] = [(1, 0), (3, 1)];
 pub fn call(lab: &Lab, name: &str) -> Result<Said, Fail> {
     match name {
         "Family::from_parts" => from_parts(lab),
-        "Family::draw" => told!(lab, Family::draw(lab.alloc, 7, 3), DrawFault::Memory),
+        "Family::draw" => told!(lab, Family::draw(lab.alloc, 7, 3), TableFault::Memory),
         "Table::new" => table_new(lab),
         "Table::from_cells" => table_from_cells(lab),
         "Table::add and merge" => table_added(lab),
@@ -39,7 +39,7 @@ fn called(lab: &Lab, name: &str, family: &Family, table: &Table, a: &Key) -> Res
 
 fn from_parts(lab: &Lab) -> Result<Said, Fail> {
     let made = marked!(lab, Family::from_parts(lab.alloc, 256, &ROWS));
-    lab.tell(made, PartsFault::Memory)
+    lab.tell(made, TableFault::Memory)
 }
 
 fn family(lab: &Lab) -> Result<Family, Fail> {

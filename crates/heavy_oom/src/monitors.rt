@@ -4,7 +4,7 @@ ghost use Rattle.std.specs.Prelude.{◌<◌};
 
 use crate::lab::{Lab, Said, marked, no_such_call, told};
 use crate::show::{Counters, Numbers};
-use hh_counters::{AddFault, BucketSaving, Monitor, NewFault, SpaceSaving};
+use hh_counters::{BucketSaving, Monitor, SpaceSaving, SummaryFault};
 use hh_stream::{Item, Key};
 use std::fmt;
 use std::test::Fail;
@@ -86,7 +86,7 @@ fn values<W: fmt::Write, M: Monitor>(
     Ok(())
 }
 
-fn add_all<M: Monitor>(monitor: &mut M, items: &[Item]) -> Result<(), AddFault> {
+fn add_all<M: Monitor>(monitor: &mut M, items: &[Item]) -> Result<(), SummaryFault> {
     for item in items {
         monitor.add(item.key(), item.weight())?;
     }
@@ -143,7 +143,7 @@ fn added_once<M: Monitor>(
     lab.show(Monitored { monitor, keys })?;
     match marked!(lab, monitor.add(key, weight)) {
         Ok(()) => lab.answer(Monitored { monitor, keys }),
-        Err(AddFault::Memory) => lab.refused(),
+        Err(SummaryFault::Memory) => lab.refused(),
         Err(fault) => Err(fault.into()),
     }
 }
@@ -182,7 +182,7 @@ fn space_saving_new(lab: &Lab) -> Result<Said, Fail> {
 }
 
 fn bucket_saving_new(lab: &Lab) -> Result<Said, Fail> {
-    told!(lab, BucketSaving::new(lab.alloc, 2), NewFault::Memory)
+    told!(lab, BucketSaving::new(lab.alloc, 2), SummaryFault::Memory)
 }
 
 fn readers<M: Monitor>(lab: &Lab, made: Result<M, Fail>) -> Result<Said, Fail> {

@@ -2,7 +2,7 @@
 
 use crate::lab::{Lab, Said, marked, no_such_call, told};
 use crate::show::{Hex, Items};
-use hh_stream::{Cutting, CuttingFault, Item, Key, KeyFault, PushFault, PushRefused, Stream};
+use hh_stream::{Cutting, Item, Key, PushRefused, Stream, StreamFault};
 use std::alloc::AllocError;
 use std::test::Fail;
 
@@ -15,11 +15,11 @@ pub fn call(lab: &Lab, name: &str) -> Result<Said, Fail> {
 fn called(lab: &Lab, name: &str, a: &Key, stream: &mut Stream) -> Result<Said, Fail> {
     let alloc = lab.alloc;
     match name {
-        "Key::new" => told!(lab, Key::new(alloc, a.bytes()), KeyFault::Memory),
+        "Key::new" => told!(lab, Key::new(alloc, a.bytes()), StreamFault::Memory),
         "Key::of_bytes" => told!(lab, Key::of_bytes(alloc, a.bytes()), AllocError),
         "Key::copy" => told!(lab, a.copy(), AllocError),
         "Stream::push" => push_twice(lab, stream, lab.key(b'd')?),
-        "Cutting::even" => told!(lab, Cutting::even(alloc, 10, 4), CuttingFault::Memory),
+        "Cutting::even" => told!(lab, Cutting::even(alloc, 10, 4), StreamFault::Memory),
         "Cutting::by_lengths" => by_lengths(lab, &[3, 0, 7]),
         "Key and Stream readers" => stream_readers(lab, stream, a),
         "Cutting readers" => cutting_readers(lab, stream),
@@ -29,7 +29,7 @@ fn called(lab: &Lab, name: &str, a: &Key, stream: &mut Stream) -> Result<Said, F
 
 fn by_lengths(lab: &Lab, lengths: &[usize]) -> Result<Said, Fail> {
     let made = marked!(lab, Cutting::by_lengths(lab.alloc, 10, lengths));
-    lab.tell(made, CuttingFault::Memory)
+    lab.tell(made, StreamFault::Memory)
 }
 
 // The calls on keys, items and streams that take no memory.
@@ -90,7 +90,7 @@ fn taken(lab: &Lab, stream: &Stream) -> Result<Option<Key>, Fail> {
 }
 
 fn handed_back(lab: &Lab, refused: PushRefused) -> Result<Option<Key>, Fail> {
-    if refused.fault != PushFault::Memory {
+    if refused.fault != StreamFault::Memory {
         return Err(Fail::new("push refused its item"));
     }
     let _said = lab.refused()?;

@@ -1,7 +1,7 @@
 //! Summaries confirmed by a second pass.
 
 use crate::fixtures::{assert_same, stream_of};
-use heavy::{ConfirmFault, Heavy, confirm};
+use heavy::{Heavy, ToolError, confirm};
 use hh_counters::Summary;
 use hh_stream::Stream;
 use std::process::Abort;
@@ -35,7 +35,7 @@ fn a_summary_confirmed_by_its_stream(rt: HostRuntime) {
     assert_same(&rt, rows.as_str(), "a 6 ");
     let other = stream_of(&rt, b"a,5\n");
     let refused = confirm(rt.alloc(), &summary, &other).err();
-    assert_same(&rt, refused, Some(ConfirmFault::TotalDiffers));
+    assert_same(&rt, refused, Some(ToolError::TotalDiffers));
 }
 
 // The items a 1, c 1 and b 3 leave b 2 of a total of 5.

@@ -2,7 +2,6 @@
 use Rattle.std.proofs.Common.{◌≡◌, ℕ, ◌-◌, ◌<◌, ◌≤◌, List, [], ◌∷◌, ◌++◌, length, Less, Greater, refl, sym, ap₂, ◌∙◌, subst, arith, All, filter, map, nat_lt, sum, zip, true}
 use Rattle.std.specs.List.{AllByRecursion}
 use Rattle.std.specs.List.Sorted.{IsStrictlySortedBy}
-use Rattle.std.specs.Map.{keys_of}
 use Rattle.std.proofs.lemmas.Bool.{cond_both}
 use Rattle.std.proofs.lemmas.Bool.Decides.{nat_tests}
 use Rattle.std.proofs.lemmas.List.Elements.{All-append, All-from_recursion, All-weaker, filter_passes}
@@ -13,7 +12,7 @@ use Rattle.hh_summaries.specs.Counters.{Counters, exceeds}
 use Rattle.hh_summaries.specs.Report.{weights_at}
 use Rattle.hh_summaries.proofs.Weights.{at_here, at_other, by_key, flipped, same_self, total_of-append, total_of-cons, weight_above, weight_of-append, weight_of-cons}
 use Rattle.hh_counters.specs.Condensed.{entry_of, free_name}
-use Rattle.hh_counters.specs.Counting.{Count, count_of}
+use Rattle.hh_counters.specs.Counting.{count_of}
 use Rattle.hh_counters.proofs.Condensing.{free_is_first, positive-entry_of, total_of-entry_of, weight_of-entry_of}
 
 -- ---- keys with numbers

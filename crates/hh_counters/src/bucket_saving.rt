@@ -1,12 +1,13 @@
 //! Space-Saving in buckets, which are put right only before a key is dropped.
 
-ghost use Rattle.std.specs.Prelude.{◌≡◌, ℕ, true, ◌+◌, ◌^◌, ◌<◌, ◌≤◌, ◌↔◌, [], IfSome, IsOk, IfOk, IsErrOf, OnOk, OnErr, None, Some, length, false};
+ghost use Rattle.std.specs.Prelude.{◌≡◌, ℕ, true, ◌+◌, ◌^◌, ◌<◌, ◌≤◌, ◌↔◌, [], IfSome, IsOk, IfOk, IfErr, IsErrOf, OnOk, OnErr, None, Some, length, false};
 ghost use Rattle.std.specs.Map.{keys_of, lookup};
 ghost use Rattle.std.specs.List.{IsDistinct};
 ghost use Rattle.indexmap.specs.IndexMap.{get as index_get, index_of, IsUnique, Updates};
 ghost use Rattle.hh_stream.specs.Weights.{Bytes, max_key_len, max_total, same_key, total_of, weight_of};
 ghost use Rattle.hh_stream.specs.Ranges.{in_range};
 ghost use Rattle.hh_summaries.specs.Counters.{max_k, IsCounters, tally, least_counter, lower};
+ghost use Rattle.hh_summaries.specs.Faults.{IsNewFault, IsAddFault};
 ghost use Rattle.hh_counters.specs.SpaceSaving.{monitor_with};
 ghost use Rattle.std.specs.BTreeSet.{IsUnchanged, Updates as SetUpdates, insert_key};
 ghost use Rattle.hh_counters.specs.Buckets.{HasFreshFirst, IsTakenIn, BoundCounters, by_counter};
@@ -14,7 +15,7 @@ ghost use Rattle.hh_counters.specs.Buckets.{HasFreshFirst, IsTakenIn, BoundCount
 use crate::monitor::Monitor;
 use crate::shared_key::SharedKey;
 use hh_stream::{BorrowedKey, Key, KeyHash, MAX_TOTAL, in_range};
-use hh_summaries::{AddFault, MAX_K, NewFault, Summary, push_copy};
+use hh_summaries::{MAX_K, Summary, SummaryFault, push_copy};
 use indexmap::IndexMap;
 use std::alloc::{AllocError, Global};
 use std::collections::BTreeSet;
@@ -65,15 +66,16 @@ const FIRST_ROOM: usize = 1024;
 impl BucketSaving {
     /// Space-Saving of no items, with room for the first keys. Keys are hashed by the words that
     /// all runs have: where others choose them, [`with_hasher`](BucketSaving::with_hasher) takes
-    /// words of the run.
-    pub fn new(alloc: Global, k: u64) -> Result<BucketSaving, NewFault>
+    /// words of the run. The error is the first of `BadK` and `Memory` that holds.
+    pub fn new(alloc: Global, k: u64) -> Result<BucketSaving, SummaryFault>
         ensures empty { IfOk result (λ s. s ≡ record { k = k; total = 0; counters = [] }) }
-        ensures bad_k { IsErrOf result NewFault.BadK ↔ (in_range k max_k ≡ false) }
+        ensures bad_k { IsErrOf result SummaryFault.BadK ↔ (in_range k max_k ≡ false) }
+        ensures faults { IfErr result IsNewFault }
     {
         if !in_range(k, MAX_K) {
-            return Err(NewFault::BadK);
+            return Err(SummaryFault::BadK);
         }
-        BucketSaving::empty(alloc, k).map_err(|_| NewFault::Memory)
+        Ok(BucketSaving::empty(alloc, k)?)
     }
 
     /// [`new`](BucketSaving::new) for a k from 1 to [`MAX_K`], where only memory can be refused.
@@ -103,22 +105,23 @@ impl BucketSaving {
     }
 
     /// [`add`](Monitor::add) of the key with these bytes, 1 to 4,096 of them.
-    pub fn add_bytes(&mut self, key: &[u8], weight: u64) -> Result<(), AddFault>
+    pub fn add_bytes(&mut self, key: &[u8], weight: u64) -> Result<(), SummaryFault>
         requires key { (0 < length key.now) × (length key.now ≤ max_key_len) }
         requires positive { 0 < weight }
         ensures added { OnOk result (self.new ≡ monitor_with self.old (key.now, weight)) }
         ensures unchanged { OnErr result (self.new ≡ self.old) }
-        ensures too_large { IsErrOf result AddFault.TotalTooLarge
+        ensures too_large { IsErrOf result SummaryFault.TotalTooLarge
             ↔ (max_total < self.old.total + weight) }
+        ensures faults { IfErr result IsAddFault }
 
         // a monitored key takes no memory
         ensures known { 0 < weight_of key.now self.old.counters
             → self.old.total + weight ≤ max_total → IsOk result }
     {
         if weight > MAX_TOTAL - self.total {
-            return Err(AddFault::TotalTooLarge);
+            return Err(SummaryFault::TotalTooLarge);
         }
-        self.add_within(key, weight).map_err(|_| AddFault::Memory)
+        Ok(self.add_within(key, weight)?)
     }
 }
 

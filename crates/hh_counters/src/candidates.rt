@@ -5,7 +5,7 @@ ghost use Rattle.std.specs.List.Sorted.{IsStrictlySortedBy};
 ghost use Rattle.std.specs.Map.{keys_of};
 ghost use Rattle.indexmap.specs.IndexSet.{insert_key};
 ghost use Rattle.hh_stream.specs.Weights.{key_cmp, same_key, total_of};
-ghost use Rattle.hh_summaries.specs.Counters.{max_k};
+ghost use Rattle.hh_summaries.specs.Counters.{max_k, IsCounters};
 ghost use Rattle.hh_summaries.specs.Report.{IsShare, contenders, counts_with, rows_above, keys_above};
 
 use crate::report::{Heavy, is_heavy, selected_rows};
@@ -40,7 +40,8 @@ impl Candidates {
     /// The keys that have a counter. They are hashed by the words that all runs have: where others
     /// choose keys, [`with_hasher`](Candidates::with_hasher) takes words of the run.
     pub fn of(alloc: Global, summary: &Summary) -> Result<Candidates, AllocError>
-        ensures { IfOk result (λ candidates. candidates ≡ keys_of summary.now.counters) }
+        ensures keys { IfOk result (λ candidates. candidates ≡ keys_of summary.now.counters) }
+        ensures few { IfOk result (λ candidates. length candidates ≤ max_k) }
     {
         Candidates::with_hasher(alloc, summary, KeyHash::fixed())
     }
@@ -52,8 +53,12 @@ impl Candidates {
         summary: &Summary,
         hash: KeyHash,
     ) -> Result<Candidates, AllocError>
-        ensures { IfOk result (λ candidates. candidates ≡ keys_of summary.now.counters) }
+        ensures keys { IfOk result (λ candidates. candidates ≡ keys_of summary.now.counters) }
+        ensures counters { OnOk result (IsCounters summary.now.counters) }
+        ensures few { IfOk result (λ candidates. length candidates ≤ max_k) }
     {
+        // It bounds the number of keys.
+        let _k = summary.k();
         let mut keys = IndexSet::with_capacity_and_hasher(alloc, summary.len(), hash)?;
         for i in 0..summary.len() {
             let (key, _) = summary.entry(i);

@@ -1,32 +1,29 @@
-//! The keys of a summary, counted as items come.
+//! Candidates that are lent, counted as items come.
 
-ghost use Rattle.std.specs.Prelude.{◌≡◌, ◌+◌, ◌<◌, ◌≤◌, ◌↔◌, ◌∷◌, [], true, IsOk, IfOk, IfSome};
-ghost use Rattle.std.specs.Prelude.{IsSome, IsTrue, OnOk, filter, length, slice_index, sum, zip};
-ghost use Rattle.std.specs.Map.{keys_of};
+ghost use Rattle.std.specs.Prelude.{◌≡◌, ◌+◌, ◌<◌, ◌≤◌, ◌↔◌, ◌∷◌, [], IsOk, IfOk, IfSome};
+ghost use Rattle.std.specs.Prelude.{IsSome, IsTrue, filter, length, slice_index, sum, zip};
 ghost use Rattle.hh_stream.specs.Weights.{max_total, total_of};
-ghost use Rattle.hh_summaries.specs.Counters.{max_k, IsCounters, exceeds};
+ghost use Rattle.hh_summaries.specs.Counters.{exceeds};
 ghost use Rattle.hh_summaries.specs.Report.{IsShare, rows_above};
 ghost use Rattle.hh_counters.specs.Counting.{CountsSome, count_of, count_with};
-ghost use Rattle.hh_stream.specs.Ranges.{in_range};
 
 use crate::candidates::Candidates;
 use crate::laws::{counts_add_up, counts_stay_within};
 use crate::report::{Heavy, push_row};
-use hh_stream::{KeyHash, Stream};
-use hh_summaries::Summary;
+use hh_stream::Stream;
 use std::alloc::{AllocError, Global};
 use std::marker::Model;
 
-/// The keys of a summary, each with its weight in the items that came, and the total weight of
-/// those.
+/// Candidates, each with its weight in the items that came, and the total weight of those. The
+/// candidates are lent, so that several may count the same ones in items of their own.
 #[derive(Drop)]
-pub struct Counts {
-    candidates: Candidates,
+pub struct Counts<'c> {
+    candidates: &'c Candidates,
     weights: Vec<u64>,
     total: u64,
 }
 
-impl Model for Counts {
+impl<'c> Model for Counts<'c> {
     ghost use Rattle.std.specs.Prelude.{◌≡◌, ◌≤◌, All, length};
     ghost use Rattle.hh_stream.specs.Weights.{max_total};
     ghost use Rattle.hh_counters.specs.Counting.{Count};
@@ -34,38 +31,22 @@ impl Model for Counts {
     ghost Value = { Count };
 
     ghost view = { λ counts. record {
-      keys = counts.candidates;
+      keys = counts.candidates.now;
       weights = counts.weights.items;
       total = counts.total;
     } };
 
-    ghost invariant = { λ counts. (length counts.weights.items ≡ length counts.candidates)
+    ghost invariant = { λ counts. (length counts.weights.items ≡ length counts.candidates.now)
         × All (λ n. n ≤ counts.total) counts.weights.items × (counts.total ≤ max_total) };
 }
 
-impl Counts {
-    /// The keys of a summary, before any item. They are hashed by the words that all runs have:
-    /// where others choose keys, [`with_hasher`](Counts::with_hasher) takes words of the run.
-    pub fn of(alloc: Global, summary: &Summary) -> Result<Counts, AllocError>
-        ensures none { IfOk result (λ counts. counts ≡ count_of (keys_of summary.now.counters) []) }
-        ensures counters { OnOk result (IsCounters summary.now.counters) }
-    {
-        Counts::with_hasher(alloc, summary, KeyHash::fixed())
-    }
-
-    /// [`of`](Counts::of), with keys hashed by `hash`. It decides how fast a key is found, and no
-    /// weight.
-    pub fn with_hasher(
-        alloc: Global,
-        summary: &Summary,
-        hash: KeyHash,
-    ) -> Result<Counts, AllocError>
-        ensures none { IfOk result (λ counts. counts ≡ count_of (keys_of summary.now.counters) []) }
-        ensures counters { OnOk result (IsCounters summary.now.counters) }
+impl<'c> Counts<'c> {
+    /// The candidates before any item.
+    pub fn new(alloc: Global, candidates: &'c Candidates) -> Result<Counts<'c>, AllocError>
+        ensures { IfOk result (λ counts. counts ≡ count_of candidates.now []) }
     {
         counts_add_up();
-        let candidates = Candidates::with_hasher(alloc, summary, hash)?;
-        let weights = vec![in alloc; 0u64; summary.len()]?;
+        let weights = vec![in alloc; 0u64; candidates.len()]?;
         Ok(Counts {
             candidates,
             weights,
@@ -75,11 +56,15 @@ impl Counts {
 
     /// The counts of some items: what each of the candidates weighs in them, and their total. There
     /// are none where the weights add up to more than the total, as those of no items do.
-    pub fn of_weights(candidates: Candidates, weights: Vec<u64>, total: u64) -> Option<Counts>
-        requires lengths { length weights.items ≡ length candidates }
+    pub fn of_weights(
+        candidates: &'c Candidates,
+        weights: Vec<u64>,
+        total: u64,
+    ) -> Option<Counts<'c>>
+        requires lengths { length weights.items ≡ length candidates.now }
         requires bounded { total ≤ max_total }
         ensures counts { IfSome result (λ counts.
-            counts ≡ record { keys = candidates; weights = weights.items; total = total }) }
+            counts ≡ record { keys = candidates.now; weights = weights.items; total = total }) }
         ensures some { IfSome result CountsSome }
         ensures within { IsSome result ↔ (sum weights.items ≤ total) }
     {
@@ -111,6 +96,13 @@ impl Counts {
         self.weights[place]
     }
 
+    /// The weight of each candidate, at its place.
+    pub fn into_weights(self) -> Vec<u64>
+        ensures { result.items ≡ self.entry.weights }
+    {
+        self.weights
+    }
+
     /// Counts an item, of the key with these bytes.
     pub fn add_bytes(&mut self, key: &[u8], weight: u64)
         requires { self.old.total + weight ≤ max_total }
@@ -132,22 +124,9 @@ impl Counts {
         self.total += stream.total();
     }
 
-    /// The keys above the total divided by k + 1, by falling weight and then by rising key.
-    pub fn select(&self, k: u64) -> Result<Vec<Heavy>, AllocError>
-        requires { in_range k max_k ≡ true }
-        ensures rows { IfOk result (λ rows. rows.items
-            ≡ rows_above 1 (k + 1) self.now.total (zip self.now.keys self.now.weights)) }
-
-        // a report without rows takes no memory
-        ensures none { rows_above 1 (k + 1) self.now.total (zip self.now.keys self.now.weights)
-            ≡ [] → IsOk result }
-    {
-        self.select_above(1, k + 1)
-    }
-
     /// The keys above p/q of the total, by falling weight and then by rising key. p/q is at most 1,
     /// and q at most [`MAX_Q`](crate::MAX_Q).
-    pub fn select_above(&self, p: u64, q: u64) -> Result<Vec<Heavy>, AllocError>
+    pub fn select(&self, p: u64, q: u64) -> Result<Vec<Heavy>, AllocError>
         requires { IsShare p q }
         ensures rows { IfOk result (λ rows. rows.items
             ≡ rows_above p q self.now.total (zip self.now.keys self.now.weights)) }

@@ -4,7 +4,6 @@
 #![tactic(auto)]
 
 mod bucket_saving;
-mod candidate_counts;
 mod candidates;
 mod counts;
 pub mod laws;
@@ -15,10 +14,9 @@ mod space_saving;
 mod taking;
 
 pub use bucket_saving::BucketSaving;
-pub use candidate_counts::CandidateCounts;
 pub use candidates::Candidates;
 pub use counts::Counts;
-pub use hh_summaries::{AddFault, BadK, MAX_K, MergeFault, NewFault, Summary};
+pub use hh_summaries::{MAX_K, Summary, SummaryFault};
 pub use monitor::{Monitor, monitored_summary};
 pub use report::{Heavy, MAX_Q, is_threshold};
 pub use space_saving::SpaceSaving;

@@ -3,10 +3,11 @@
 ghost use Rattle.std.specs.Prelude.{◌≡◌, ◌+◌, ◌<◌, ◌≤◌, ◌↔◌, ◌==◌, OnOk, OnErr, IsOk, IfOk, IfErr, IsErrOf, length, []};
 ghost use Rattle.hh_stream.specs.Weights.{max_key_len, max_total, weight_of, total_of};
 ghost use Rattle.hh_summaries.specs.Counters.{SummaryView, sketch_of};
+ghost use Rattle.hh_summaries.specs.Faults.{IsAddFault};
 ghost use Rattle.hh_counters.specs.SpaceSaving.{least_of, monitor_of, monitor_with, translation_of};
 
 use hh_stream::{Item, Key, MAX_TOTAL};
-use hh_summaries::{AddFault, Summary};
+use hh_summaries::{Summary, SummaryFault};
 use std::alloc::AllocError;
 
 /// Space-Saving over a weighted stream: at most k + 1 monitored keys with counters (Metwally,
@@ -49,25 +50,25 @@ pub trait Monitor: Drop {
         ensures { result ≡ weight_of key.now (seen self.now).counters };
 
     /// Adds an item. A monitored key's counter grows by the weight. A newcomer gets a free counter,
-    /// or takes over the least one, whose key is dropped: of several the least key. After a refusal
-    /// everything is as it was.
-    fn add(&mut self, key: &Key, weight: u64) -> Result<(), AddFault>
+    /// or takes over the least one, whose key is dropped: of several the least key. The error is
+    /// the first of `TotalTooLarge` and `Memory` that holds; everything is then as it was.
+    fn add(&mut self, key: &Key, weight: u64) -> Result<(), SummaryFault>
         requires { 0 < weight }
         ensures added { OnOk result
             (seen self.new ≡ monitor_with (seen self.old) (key.now, weight)) }
         ensures unchanged { OnErr result (seen self.new ≡ seen self.old) }
-        ensures too_large { IsErrOf result AddFault.TotalTooLarge
+        ensures too_large { IsErrOf result SummaryFault.TotalTooLarge
             ↔ (max_total < (seen self.old).total + weight) }
+        ensures faults { IfErr result IsAddFault }
 
         // a monitored key takes no memory
         ensures known { 0 < weight_of key.now (seen self.old).counters
             → (seen self.old).total + weight ≤ max_total → IsOk result }
     {
         if weight > MAX_TOTAL - self.total() {
-            return Err(AddFault::TotalTooLarge);
+            return Err(SummaryFault::TotalTooLarge);
         }
-        self.add_within(key.bytes(), weight)
-            .map_err(|_| AddFault::Memory)
+        Ok(self.add_within(key.bytes(), weight)?)
     }
 
     /// [`add`](Monitor::add) of the key with these bytes, 1 to 4,096 of them, where the total stays

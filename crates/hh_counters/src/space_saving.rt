@@ -1,6 +1,6 @@
 //! Space-Saving in its plain form.
 
-ghost use Rattle.std.specs.Prelude.{◌≡◌, ◌+◌, ◌<◌, ◌≤◌, ◌^◌, ◌↔◌, [], IfOk, IsOk, IsErr, OnOk, OnErr, length, false};
+ghost use Rattle.std.specs.Prelude.{◌≡◌, ◌+◌, ◌<◌, ◌≤◌, ◌^◌, ◌↔◌, [], IfOk, IfErr, IsOk, IsErr, OnOk, OnErr, length, false};
 ghost use Rattle.hh_stream.specs.Weights.{max_key_len, weight_of, total_of};
 ghost use Rattle.hh_stream.specs.Ranges.{in_range};
 ghost use Rattle.hh_summaries.specs.Counters.{max_k, IsCounters, SummaryView};
@@ -8,7 +8,7 @@ ghost use Rattle.hh_counters.specs.SpaceSaving.{IsFirstLeast, IsMonitor, step, t
 
 use crate::monitor::Monitor;
 use hh_stream::{Key, in_range};
-use hh_summaries::{BadK, MAX_K, Summary, add_entry, counter_of, least_counter, lower_all};
+use hh_summaries::{MAX_K, Summary, SummaryFault, add_entry, counter_of, least_counter, lower_all};
 use std::alloc::{AllocError, Global};
 use std::marker::Model;
 
@@ -37,13 +37,14 @@ impl Model for SpaceSaving {
 }
 
 impl SpaceSaving {
-    /// Space-Saving of no items. It takes no memory.
-    pub fn new(alloc: Global, k: u64) -> Result<SpaceSaving, BadK>
+    /// Space-Saving of no items. It takes no memory, and the one error is `BadK`.
+    pub fn new(alloc: Global, k: u64) -> Result<SpaceSaving, SummaryFault>
         ensures empty { IfOk result (λ s. s ≡ record { k = k; total = 0; counters = [] }) }
         ensures bad_k { IsErr result ↔ (in_range k max_k ≡ false) }
+        ensures fault { IfErr result (λ fault. fault ≡ SummaryFault.BadK) }
     {
         if !in_range(k, MAX_K) {
-            return Err(BadK);
+            return Err(SummaryFault::BadK);
         }
         Ok(SpaceSaving {
             k,

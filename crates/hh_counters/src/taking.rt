@@ -24,7 +24,7 @@ impl TakeItems for BucketSaving {
     }
 }
 
-impl TakeItems for Counts {
+impl<'c> TakeItems for Counts<'c> {
     ghost with_item = { λ counts item. count_with counts (item ∷ []) };
 
     ghost weight_taken = { λ counts. counts.total };

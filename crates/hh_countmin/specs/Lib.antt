@@ -1,4 +1,5 @@
 pub mod Family
 pub mod FamilyEq
+pub mod Faults
 pub mod Laws
 pub mod Table

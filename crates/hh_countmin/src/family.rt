@@ -1,11 +1,13 @@
 //! Hash families.
 
-ghost use Rattle.std.specs.Prelude.{◌≡◌, ◌+◌, ◌*◌, ◌<◌, ◌≤◌, ◌↔◌, length, IfOk, IsErrOf, IsTrue, true, false};
+ghost use Rattle.std.specs.Prelude.{◌≡◌, ◌+◌, ◌*◌, ◌<◌, ◌≤◌, ◌↔◌, length, IfOk, IfErr, IsErrOf, IsTrue, true, false};
 ghost use Rattle.hh_stream.specs.Ranges.{in_range};
+ghost use Rattle.hh_countmin.specs.Faults.{IsDrawFault, IsPartsFault};
 ghost use Rattle.hh_countmin.specs.Family.{max_depth, max_width, modulus, IsFamily, AreCoefficients, IsRow, coefficients_of, fingerprint_of, ArePowers, cell_of, cell_of_fingerprint, drawn_family, factor_of, addend_of, rows_of_words};
 ghost use Rattle.rand_core.specs.Steps.{first_words};
 ghost use Rattle.rand_pcg.specs.Pcg.{pcg64};
 
+use crate::fault::TableFault;
 use crate::modulus::{MODULUS, multiply_add, reduce, remainder};
 use hh_stream::{Key, in_range};
 use rand_core::SeedableRng;
@@ -13,7 +15,6 @@ use rand_core::utils::NextWord;
 use rand_pcg::Pcg64;
 use std::alloc::{AllocError, Global};
 use std::marker::Model;
-use thiserror::Error;
 
 /// The most rows of a family.
 pub const MAX_DEPTH: u64 = 16;
@@ -46,43 +47,20 @@ impl Model for Family {
         × ArePowers family.z family.powers };
 }
 
-/// Why a family was not drawn: the first of these that holds.
-#[derive(Clone, Copy, Debug, PartialEq, Eq, Error)]
-pub enum DrawFault {
-    /// The depth is not 1 to 16.
-    #[error("depth must be 1 to 16")]
-    BadDepth,
-    /// The allocator had no memory.
-    #[error("out of memory")]
-    Memory,
-}
-
-/// Why parts are no family: the first of these that holds.
-#[derive(Clone, Copy, Debug, PartialEq, Eq, Error)]
-pub enum PartsFault {
-    /// There are no rows, or more than 16.
-    #[error("depth must be 1 to 16")]
-    BadDepth,
-    /// A multiplier is 0, or a coefficient is not below [`MODULUS`].
-    #[error("a coefficient is out of range")]
-    BadCoefficient,
-    /// The allocator had no memory.
-    #[error("out of memory")]
-    Memory,
-}
-
 impl Family {
     /// The family of a seed: the words of `Pcg64`, seeded by `seed_from_u64`, make z and then the
-    /// coefficients a and b of each row.
-    pub fn draw(alloc: Global, seed: u64, depth: u64) -> Result<Family, DrawFault>
+    /// coefficients a and b of each row. The error is the first of `BadDepth` and `Memory` that
+    /// holds.
+    pub fn draw(alloc: Global, seed: u64, depth: u64) -> Result<Family, TableFault>
         ensures drawn { IfOk result (λ family. family ≡ drawn_family seed depth) }
-        ensures bad_depth { IsErrOf result DrawFault.BadDepth
+        ensures bad_depth { IsErrOf result TableFault.BadDepth
             ↔ (in_range depth max_depth ≡ false) }
+        ensures faults { IfErr result IsDrawFault }
     {
         if !in_range(depth, MAX_DEPTH) {
-            return Err(DrawFault::BadDepth);
+            return Err(TableFault::BadDepth);
         }
-        Family::of_seed(alloc, seed, depth).map_err(|_| DrawFault::Memory)
+        Ok(Family::of_seed(alloc, seed, depth)?)
     }
 
     /// [`draw`](Family::draw) for a depth from 1 to [`MAX_DEPTH`], where only memory can be
@@ -102,26 +80,26 @@ impl Family {
     }
 
     /// The family with these coefficients: `z`, and a pair (a, b) for each row. `z` and each a are
-    /// 1 or more, and all are below [`MODULUS`].
-    pub fn from_parts(alloc: Global, z: u64, rows: &[(u64, u64)]) -> Result<Family, PartsFault>
+    /// 1 or more, and all are below [`MODULUS`]. The error is the first of `BadDepth`,
+    /// `BadCoefficient` and `Memory` that holds.
+    pub fn from_parts(alloc: Global, z: u64, rows: &[(u64, u64)]) -> Result<Family, TableFault>
         ensures parts { IfOk result (λ family. family ≡ record { z = z; rows = rows.now }) }
         ensures in_range { IfOk result IsFamily }
-        ensures bad_depth { IsErrOf result PartsFault.BadDepth
+        ensures bad_depth { IsErrOf result TableFault.BadDepth
             ↔ (in_range (length rows.now) max_depth ≡ false) }
-        ensures bad_coefficient { IsErrOf result PartsFault.BadCoefficient
+        ensures bad_coefficient { IsErrOf result TableFault.BadCoefficient
             ↔ ((in_range (length rows.now) max_depth ≡ true)
             × ¬ (AreCoefficients z rows.now)) }
+        ensures faults { IfErr result IsPartsFault }
     {
         if !in_range(rows.len() as u64, MAX_DEPTH) {
-            return Err(PartsFault::BadDepth);
+            return Err(TableFault::BadDepth);
         }
         if !Family::are_coefficients(z, rows) {
-            return Err(PartsFault::BadCoefficient);
+            return Err(TableFault::BadCoefficient);
         }
-        match Vec::from_slice(alloc, rows) {
-            Ok(rows) => Ok(Family::from_rows(z, rows)),
-            Err(_) => Err(PartsFault::Memory),
-        }
+        let rows = Vec::from_slice(alloc, rows)?;
+        Ok(Family::from_rows(z, rows))
     }
 
     /// Whether the coefficients are in their ranges: `z` and the first of each pair are 1 or more,

@@ -3,11 +3,13 @@
 #![tactic(auto)]
 
 mod family;
+mod fault;
 pub mod laws;
 mod modulus;
 mod table;
 mod taking;
 
-pub use family::{DrawFault, Family, MAX_DEPTH, MAX_WIDTH, PartsFault};
+pub use family::{Family, MAX_DEPTH, MAX_WIDTH};
+pub use fault::TableFault;
 pub use modulus::MODULUS;
-pub use table::{MergeFault, Table, TableFault, TotalTooLarge, sums_to};
+pub use table::{Table, sums_to};

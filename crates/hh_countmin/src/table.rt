@@ -1,16 +1,17 @@
 //! Count-Min tables.
 
-ghost use Rattle.std.specs.Prelude.{◌≡◌, ◌≢◌, ◌+◌, ◌*◌, ◌<◌, ◌≤◌, ◌^◌, ◌↔◌, ◌==◌, ℕ, sum, length, slice_index, IfOk, OnOk, OnErr, IsErr, IsErrOf, IsTrue, EachIndex, true, false};
+ghost use Rattle.std.specs.Prelude.{◌≡◌, ◌≢◌, ◌+◌, ◌*◌, ◌<◌, ◌≤◌, ◌^◌, ◌↔◌, ◌==◌, ℕ, sum, length, slice_index, IfOk, IfErr, OnOk, OnErr, IsErr, IsErrOf, IsTrue, EachIndex, true, false};
 ghost use Rattle.hh_stream.specs.Ranges.{in_range};
 ghost use Rattle.hh_countmin.specs.Family.{max_width, modulus, coefficients_of, cell_of_fingerprint};
 ghost use Rattle.hh_stream.specs.Weights.{max_total};
+ghost use Rattle.hh_countmin.specs.Faults.{IsNewFault, IsMergeFault};
 ghost use Rattle.hh_countmin.specs.Table.{FitsTable, row_at, cell_at, empty_table, grid_with, grid_sum, estimate_in, least_of_rows, raised};
 
 use crate::family::{Family, MAX_WIDTH};
+use crate::fault::TableFault;
 use hh_stream::{Key, MAX_TOTAL, in_range};
 use std::alloc::{AllocError, Global};
 use std::marker::Model;
-use thiserror::Error;
 
 /// A Count-Min table (Cormode and Muthukrishnan 2005): rows of `width` cells, one row for each row
 /// of its hash family. An item adds its weight to one cell of each row, so each row adds up to the
@@ -41,47 +42,18 @@ impl Model for Table {
     ghost invariant = { λ table. FitsTable table.family table.width table.total table.cells.items };
 }
 
-/// Why there is no table: the first of these that holds.
-#[derive(Clone, Copy, Debug, PartialEq, Eq, Error)]
-pub enum TableFault {
-    /// The width is not 1 to 65,536.
-    #[error("width must be 1 to 65536")]
-    BadWidth,
-    /// The allocator had no memory.
-    #[error("out of memory")]
-    Memory,
-}
-
-/// The total would be above [`MAX_TOTAL`].
-#[derive(Clone, Copy, Debug, PartialEq, Eq, Error)]
-#[error("the total would be above 2^63 - 1")]
-pub struct TotalTooLarge;
-
-/// Why a table was not merged: the first of these that holds.
-#[derive(Clone, Copy, Debug, PartialEq, Eq, Error)]
-pub enum MergeFault {
-    /// The hash families differ.
-    #[error("the tables have different hash families")]
-    DifferentFamily,
-    /// The widths differ.
-    #[error("the tables have different widths")]
-    DifferentWidth,
-    /// The total would be above [`MAX_TOTAL`].
-    #[error("the total would be above 2^63 - 1")]
-    TotalTooLarge,
-}
-
 impl Table {
-    /// A table whose cells are all 0.
+    /// A table whose cells are all 0. The error is the first of `BadWidth` and `Memory` that holds.
     pub fn new(alloc: Global, family: Family, width: u64) -> Result<Table, TableFault>
         ensures table { IfOk result (λ table. table ≡ empty_table family width) }
         ensures bad_width { IsErrOf result TableFault.BadWidth
             ↔ (in_range width max_width ≡ false) }
+        ensures faults { IfErr result IsNewFault }
     {
         if !in_range(width, MAX_WIDTH) {
             return Err(TableFault::BadWidth);
         }
-        Table::empty(alloc, family, width).map_err(|_| TableFault::Memory)
+        Ok(Table::empty(alloc, family, width)?)
     }
 
     /// [`new`](Table::new) for a width from 1 to [`MAX_WIDTH`], where only memory can be refused.
@@ -127,23 +99,26 @@ impl Table {
         }
     }
 
-    /// Adds an item's weight to the key's cell of each row. After a refusal the table is as it was.
-    pub fn add(&mut self, key: &Key, weight: u64) -> Result<(), TotalTooLarge>
+    /// Adds an item's weight to the key's cell of each row. The one error is `TotalTooLarge`; the
+    /// table is then as it was.
+    pub fn add(&mut self, key: &Key, weight: u64) -> Result<(), TableFault>
         ensures added { OnOk result (self.new ≡ grid_with self.old (key.now, weight)) }
         ensures unchanged { OnErr result (self.new ≡ self.old) }
         ensures too_large { IsErr result ↔ (max_total < self.old.total + weight) }
+        ensures fault { IfErr result (λ fault. fault ≡ TableFault.TotalTooLarge) }
     {
         self.add_bytes(key.bytes(), weight)
     }
 
     /// [`add`](Table::add) of the key with these bytes.
-    pub fn add_bytes(&mut self, key: &[u8], weight: u64) -> Result<(), TotalTooLarge>
+    pub fn add_bytes(&mut self, key: &[u8], weight: u64) -> Result<(), TableFault>
         ensures added { OnOk result (self.new ≡ grid_with self.old (key.now, weight)) }
         ensures unchanged { OnErr result (self.new ≡ self.old) }
         ensures too_large { IsErr result ↔ (max_total < self.old.total + weight) }
+        ensures fault { IfErr result (λ fault. fault ≡ TableFault.TotalTooLarge) }
     {
         if weight > MAX_TOTAL - self.total {
-            return Err(TotalTooLarge);
+            return Err(TableFault::TotalTooLarge);
         }
         self.add_within(key, weight);
         Ok(())
@@ -166,28 +141,30 @@ impl Table {
         self.total += weight;
     }
 
-    /// Adds the cells and the total of a table of the same family and width. After a refusal the
-    /// table is as it was.
-    pub fn merge(&mut self, other: &Table) -> Result<(), MergeFault>
+    /// Adds the cells and the total of a table of the same family and width. The error is the first
+    /// of `DifferentFamily`, `DifferentWidth` and `TotalTooLarge` that holds; the table is then as
+    /// it was.
+    pub fn merge(&mut self, other: &Table) -> Result<(), TableFault>
         ensures merged { OnOk result (self.new ≡ grid_sum self.old other.now) }
         ensures unchanged { OnErr result (self.new ≡ self.old) }
 
-        ensures different_family { IsErrOf result MergeFault.DifferentFamily
+        ensures different_family { IsErrOf result TableFault.DifferentFamily
             ↔ (self.old.family ≢ other.now.family) }
-        ensures different_width { IsErrOf result MergeFault.DifferentWidth
+        ensures different_width { IsErrOf result TableFault.DifferentWidth
             ↔ ((self.old.family ≡ other.now.family) × (self.old.width ≢ other.now.width)) }
-        ensures too_large { IsErrOf result MergeFault.TotalTooLarge
+        ensures too_large { IsErrOf result TableFault.TotalTooLarge
             ↔ ((self.old.family ≡ other.now.family) × (self.old.width ≡ other.now.width)
             × (max_total < self.old.total + other.now.total)) }
+        ensures faults { IfErr result IsMergeFault }
     {
         if !are_one(&self.family, &other.family) {
-            return Err(MergeFault::DifferentFamily);
+            return Err(TableFault::DifferentFamily);
         }
         if self.width != other.width {
-            return Err(MergeFault::DifferentWidth);
+            return Err(TableFault::DifferentWidth);
         }
         if other.total > MAX_TOTAL - self.total {
-            return Err(MergeFault::TotalTooLarge);
+            return Err(TableFault::TotalTooLarge);
         }
         add_cells(&mut self.cells, &other.cells);
         self.total += other.total;

@@ -1,7 +1,6 @@
 pub mod ConfirmFacts
 pub mod FilePassFacts
 pub mod FilePieceFacts
-pub mod ShareFacts
 pub mod SourceReportFacts
 pub mod TableFacts
 pub mod WeighFacts

@@ -11,6 +11,7 @@ ghost use Rattle.hh_commands.specs.Files.{StopsAtHead};
 
 use crate::file_passes::count_sources;
 use hh_commands::{Bounds, Comparison, confirmed_text, summary_in};
+use hh_counters::Candidates;
 use hh_faults::ToolError;
 use hh_pieces::{ReadAt, SourceRecords};
 use hh_pool::MAX_WORKERS;
@@ -65,6 +66,7 @@ pub fn confirm_files<T: Threads + Wait + Sync, S: ReadAt + Sync>(
     if !in_range(workers, MAX_WORKERS) {
         return Err(ToolError::BadWorkers);
     }
-    let counts = count_sources(rt, alloc, &summary, workers, records)?;
+    let candidates = Candidates::with_hasher(alloc, &summary, records.layout.hash)?;
+    let counts = count_sources(rt, alloc, &candidates, workers, records)?;
     confirmed_text(alloc, &summary, share, rows, &counts, compared)
 }

@@ -16,8 +16,8 @@ ghost use Rattle.hh_files.specs.ReportFiles.{AreKeysOfPieces, FilesRefused, Find
 
 use crate::file_pieces::FilePieces;
 use hh_commands::{count_records, rows_above, summary_by_monitoring};
-use hh_counters::Heavy;
 use hh_counters::laws::{candidates_suffice, misra_gries_is_honest};
+use hh_counters::{Candidates, Heavy};
 use hh_faults::ToolError;
 use hh_pieces::{CutFiles, ReadAt, SourceRecords};
 use hh_pool::{Options, PieceFault, report_pieces};
@@ -91,7 +91,8 @@ fn keys_in_turn<R: ReadRecords + Copy>(
     misra_gries_is_honest();
     candidates_suffice();
     let summary = summary_by_monitoring(alloc, k, records)?;
-    let counts = count_records(alloc, &summary, records)?;
+    let candidates = Candidates::with_hasher(alloc, &summary, records.hash())?;
+    let counts = count_records(alloc, &candidates, records)?;
     if counts.total() != summary.total() {
         return Err(ToolError::ReadFault);
     }

@@ -1,9 +1,8 @@
 //! The greatest keys of files, which workers read in pieces, up to three times.
 
-ghost use Rattle.std.specs.Prelude.{◌≡◌, All, true, IfOk, IfErr, OnOk};
-ghost use Rattle.std.specs.Map.{keys_of};
+ghost use Rattle.std.specs.Prelude.{◌≡◌, ◌≤◌, All, length, true, IfOk, IfErr, OnOk};
 ghost use Rattle.hh_stream.specs.Ranges.{in_range};
-ghost use Rattle.hh_top.specs.Top.{chosen_of};
+ghost use Rattle.hh_summaries.specs.Counters.{max_k};
 ghost use Rattle.hh_workers.specs.Workers.{max_workers};
 ghost use Rattle.hh_pieces.specs.Sources.{sources_known};
 ghost use Rattle.hh_records.specs.Refusals.{RecordsRefused};
@@ -13,7 +12,7 @@ ghost use Rattle.hh_files.specs.TopFiles.{TopFilesRefused, TopRefused};
 
 use crate::file_passes::count_sources;
 use crate::tallying::tally_of_sources;
-use hh_counters::{Counts, Heavy, MAX_K};
+use hh_counters::{Candidates, Counts, Heavy, MAX_K};
 use hh_faults::ToolError;
 use hh_pieces::{ReadAt, SourceRecords};
 use hh_pool::MAX_WORKERS;
@@ -70,23 +69,24 @@ fn shortlist_of<T: Threads + Wait + Sync, S: ReadAt + Sync>(
     Ok(Shortlist::of(alloc, grown, options.n)?)
 }
 
-/// Counts in `records` the keys of a shortlist of them that can be among the greatest. If the count
-/// has another total than the tally, the error is [`ToolError::ReadFault`].
-fn chosen_counts<T: Threads + Wait + Sync, S: ReadAt + Sync>(
+/// Counts `candidates` in `records`, whose shortlist is `list`. If the count has another total than
+/// the tally, the error is [`ToolError::ReadFault`].
+fn chosen_counts<'c, T: Threads + Wait + Sync, S: ReadAt + Sync>(
     rt: &T,
     alloc: Global,
     list: &Shortlist,
+    candidates: &'c Candidates,
     workers: u64,
     records: SourceRecords<'_, S>,
-) -> Result<Counts, ToolError>
+) -> Result<Counts<'c>, ToolError>
+    requires few { length candidates.now ≤ max_k }
     requires workers { in_range workers max_workers ≡ true }
-    ensures counts { IfOk result (CountsRecords (sources_known S.bytes records.entry) (keys_of
-        (chosen_of list.now.n list.now.tally))) }
+    ensures counts { IfOk result
+        (CountsRecords (sources_known S.bytes records.entry) candidates.now) }
     ensures still { OnOk result (All S.still records.entry.sources.now) }
     ensures refused { IfErr result (RecordsRefused (sources_known S.bytes records.entry)) }
 {
-    let choice = list.choice(alloc)?;
-    let counts = count_sources(rt, alloc, &choice, workers, records)?;
+    let counts = count_sources(rt, alloc, candidates, workers, records)?;
     if counts.total() != list.tally().total() {
         return Err(ToolError::ReadFault);
     }
@@ -115,7 +115,8 @@ fn top_of_list<T: Threads + Wait + Sync, S: ReadAt + Sync>(
     if list.tally().is_exact() {
         return Ok(list.greatest_counters(alloc)?);
     }
-    let counts = match chosen_counts(rt, alloc, list, workers, records) {
+    let choice = list.choice(alloc, records.layout.hash)?;
+    let counts = match chosen_counts(rt, alloc, list, &choice, workers, records) {
         Ok(counts) => counts,
         Err(fault) => return Err(fault),
     };

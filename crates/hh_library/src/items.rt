@@ -1,18 +1,16 @@
-//! Items in memory: what is wrong with one, and the keys of a summary counted in them.
+//! Items in memory: what is wrong with one, and candidates counted in them.
 
 ghost use Rattle.std.specs.Prelude.{◌≡◌, ◌≤◌, ◌<◌, ◌+◌, None, IfOk, IfErr};
-ghost use Rattle.std.specs.Map.{keys_of};
 ghost use Rattle.hh_stream.specs.Weights.{max_total};
-ghost use Rattle.hh_summaries.specs.Counters.{IsCounters};
 ghost use Rattle.hh_library.specs.Add.{bad_item, item_fault, entries};
 ghost use Rattle.hh_commands.specs.Ask.{unless};
 ghost use Rattle.hh_commands.specs.Files.{Refuses};
 ghost use Rattle.hh_commands.specs.Records.{IsCountOf};
 
 use hh_counters::laws::counts_follow_items;
-use hh_counters::{Counts, Summary};
+use hh_counters::{Candidates, Counts};
 use hh_faults::{BadRecordCause, ToolError};
-use hh_stream::{KeyHash, MAX_KEY_LEN, MAX_TOTAL};
+use hh_stream::{MAX_KEY_LEN, MAX_TOTAL};
 use std::alloc::Global;
 
 /// What is wrong with the item with this number, after items of this total.
@@ -36,22 +34,19 @@ pub fn item_fault(number: u64, total: u64, key: &[u8], weight: u64) -> Option<To
     Some(ToolError::BadRecord { number, cause })
 }
 
-/// The counts of a summary's keys, hashed by `hash`, in items, numbered from 1.
-pub(crate) fn count_items(
+/// The counts of candidates in items, numbered from 1.
+pub(crate) fn count_items<'c>(
     alloc: Global,
-    summary: &Summary,
+    candidates: &'c Candidates,
     items: &[(&[u8], u64)],
-    hash: KeyHash,
-) -> Result<Counts, ToolError>
+) -> Result<Counts<'c>, ToolError>
     ensures passes { IfOk result (λ counts. bad_item 1 0 (entries items.now) ≡ None) }
-    ensures counts { IfOk result
-        (IsCountOf (keys_of summary.now.counters) (entries items.now)) }
-    ensures counters { IfOk result (λ counts. IsCounters summary.now.counters) }
+    ensures counts { IfOk result (IsCountOf candidates.now (entries items.now)) }
     ensures refused { IfErr result (Refuses
-        (unless (bad_item 1 0 (entries items.now)) summary.now)) }
+        (unless (bad_item 1 0 (entries items.now)) candidates.now)) }
 {
     counts_follow_items();
-    let mut counts = Counts::with_hasher(alloc, summary, hash)?;
+    let mut counts = Counts::new(alloc, candidates)?;
     for i in 0..items.len() {
         let (key, weight) = items[i];
         if let Some(fault) = item_fault(i as u64 + 1, counts.total(), key, weight) {

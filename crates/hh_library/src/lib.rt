@@ -11,7 +11,7 @@ mod items;
 pub use accumulator::Accumulator;
 pub use commands::add::{add_items, add_items_by, empty_summary};
 pub use commands::add_text::add_text;
-pub use commands::confirm::{ConfirmFault, confirm};
+pub use commands::confirm::confirm;
 pub use commands::confirm_share::confirm_share;
 pub use commands::count_items::{condense_items, confirm_items};
 pub use commands::entries::list_entries;

@@ -9,12 +9,12 @@ use native.Mathlib.Decide.{dec_lt}
 use Rattle.csv.specs.Machine.{line_feed}
 use Rattle.memchr.specs.Find.{NoneBefore, Nowhere, Passes, is_byte}
 use Rattle.hh_stream.specs.Weights.{Entry, total_of}
+use Rattle.hh_faults.specs.declared.records.TextError.{TextError}
+use Rattle.hh_faults.specs.declared.records.TextError.TheVariants as error
 use Rattle.hh_records.specs.declared.layout.Layout.{Layout}
-use Rattle.hh_records.specs.declared.records.RecordFault.{RecordFault}
-use Rattle.hh_records.specs.declared.records.RecordFault.TheVariants as fault
-use Rattle.hh_records.specs.Layouts.{PartsRefused, RowsRefused, adds, items_after}
+use Rattle.hh_records.specs.Layouts.{RecordRefused, RowsRefused, adds, items_after}
 use Rattle.hh_pieces.specs.Lines.{HasNoReturn, filled, filled_lines, is_line_end, line_end, line_fields, parts_in_line}
-use Rattle.hh_records.specs.Streams.{Fields, Parts, numbered_fault, parts_of}
+use Rattle.hh_records.specs.Streams.{Fields, Parts, parts_of}
 use Rattle.hh_pieces.proofs.QuoteFacts.{rest-all}
 use Rattle.hh_records.proofs.FormatFacts.{first-place, none-place}
 use Rattle.hh_records.proofs.ReadFacts.{items-more}
@@ -215,20 +215,22 @@ module _ (layout : Layout) (separator : Option ℕ) (t : ℕ) (text : List ℕ) 
           count = omega (arith, size, so_far.count);
         }
 
-    pub lines-refused : from < end → (x : RecordFault) → PartsRefused layout (t + total_of xs) (parts_in_line separator line) x
-        → RowsRefused layout 0 t (Some (parts (filled_lines text))) (numbered_fault (number + 1) x)
+    pub lines-refused : from < end → (x : TextError) → RecordRefused (number + 1) (adds layout (t + total_of xs) (parts_in_line separator line)) x
+        → RowsRefused layout 0 t (Some (parts (filled_lines text))) x
     unfolding items_after
-    lines-refused some fault.Memory j = tt
-    lines-refused some (fault.Bad x) j =
+    lines-refused some error.Memory j = tt
+    lines-refused some (error.BadRecord l x) (same, j) =
         let left = filled_lines (drop (end + 1) text) in
         let all : parts (so_far.lines ++ line ∷ left) ≡ parts so_far.lines ++ parts_in_line separator line ∷ parts left =
         map-append (parts_in_line separator) so_far.lines (line ∷ left) in
         let size = length-map so_far.lines (parts_in_line separator) in
         let place : 1 + length (parts so_far.lines) ≡ number + 1 = omega (arith, size, so_far.count) in
         rw (
+          same,
           all-lines some,
           all,
           items-more layout 1 t xs (parts so_far.lines) (parts_in_line separator line ∷ parts left) so_far.items,
           j,
           place,
         ) refl
+    lines-refused some _ j = absurd j

@@ -5,12 +5,12 @@ ghost use Rattle.std.specs.Bool.{OnTrue};
 ghost use Rattle.std.specs.Prelude.{◌≡◌, ◌≤◌, IfErr, OnOk, Ok, Some, length, map, option_map, true};
 ghost use Rattle.hh_stream.specs.Weights.{max_total};
 ghost use Rattle.hh_stream.specs.Taking.{Takes};
-ghost use Rattle.hh_records.specs.Layouts.{PartsRefused, RowsRefused, adds, items_after};
+ghost use Rattle.hh_records.specs.Layouts.{RecordRefused, RowsRefused, adds, items_after};
 ghost use Rattle.hh_pieces.specs.Lines as spec;
 ghost use Rattle.hh_pieces.specs.Lines.{HasNoReturn, IsUnquoted, filled_lines, parts_in_line};
 
 use hh_faults::TextError;
-use hh_records::{Format, Layout, RecordFault, numbered_fault, take_parts};
+use hh_records::{Format, Layout, take_parts};
 use hh_stream::TakeItems;
 use memchr::{memchr, memchr2};
 use std::alloc::Global;
@@ -115,26 +115,33 @@ fn line_parts(line: &[u8], separator: Option<u8>) -> Option<(&[u8], Option<&[u8]
     }
 }
 
-/// Hands on what the record of a line adds.
+/// Hands on what the record of a line adds, which has this `number`.
 fn take_line<T: TakeItems>(
     alloc: Global,
     taker: &mut T,
     line: &[u8],
     separator: Option<u8>,
+    number: u64,
     bad: &mut u64,
     layout: &Layout,
-) -> Result<(), RecordFault>
+) -> Result<(), TextError>
     requires bounded { T.weight_taken taker.old ≤ max_total }
     ensures taken { OnOk result
         (Takes T.with_item T.weight_taken taker.old taker.new (λ xs.
         adds layout.now (T.weight_taken taker.old)
         (parts_in_line separator line.now) ≡ Ok xs)) }
     ensures bounded { OnOk result (T.weight_taken taker.new ≤ max_total) }
-    ensures refused { IfErr result (λ fault.
-        PartsRefused layout.now (T.weight_taken taker.old)
-        (parts_in_line separator line.now) fault) }
+    ensures refused { IfErr result (RecordRefused number
+        (adds layout.now (T.weight_taken taker.old) (parts_in_line separator line.now))) }
 {
-    take_parts(alloc, taker, line_parts(line, separator), bad, layout)
+    take_parts(
+        alloc,
+        taker,
+        number,
+        line_parts(line, separator),
+        bad,
+        layout,
+    )
 }
 
 /// Hands on what each line of a text adds, blank ones aside, where a line is cut into fields at
@@ -164,10 +171,15 @@ pub(crate) fn read_lines<T: TakeItems>(
         let end = line_end(text, from, has_no_return);
         if from < end {
             number += 1;
-            match take_line(alloc, taker, &text[from..end], separator, bad, layout) {
-                Ok(()) => {}
-                Err(fault) => return Err(numbered_fault(number, fault)),
-            }
+            take_line(
+                alloc,
+                taker,
+                &text[from..end],
+                separator,
+                number,
+                bad,
+                layout,
+            )?;
         }
         from = end + 1;
     }

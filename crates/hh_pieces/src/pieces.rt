@@ -257,13 +257,9 @@ pub(crate) fn read_left<R: Read + Drop, T: TakeItems>(
 {
     // What was taken before is in range, as this call's clause says.
     let _ = taker.total();
-    let text = match open_piece(alloc, layout, columns, piece) {
-        Ok(Some(text)) => text,
-        Ok(None) => return Ok(()),
-        Err(error) => return Err(error),
+    let Some(text) = open_piece(alloc, layout, columns, piece)? else {
+        return Ok(());
     };
-    match read_rows(alloc, text, 0, taker, bad, layout) {
-        Ok(_) => Ok(()),
-        Err(error) => Err(error),
-    }
+    read_rows(alloc, text, 0, taker, bad, layout)?;
+    Ok(())
 }

@@ -1,8 +1,8 @@
 -- What a tree's parts need and give where its summaries are merged.
 use Rattle.std.proofs.Common.{◌≡◌, ◌<◌, ◌∙◌, ℕ, List, [], Result, Ok, Err, refl, sym, arith, slice_index_or}
 use Rattle.hh_summaries.specs.Counters.{SummaryView}
-use Rattle.hh_summaries.specs.declared.summary.MergeFault.{MergeFault}
-use Rattle.hh_summaries.specs.declared.summary.MergeFault.TheVariants as fault
+use Rattle.hh_summaries.specs.declared.fault.SummaryFault.{SummaryFault}
+use Rattle.hh_summaries.specs.declared.fault.SummaryFault.TheVariants as fault
 use Rattle.hh_shared.specs.Tally.{times, IsDistinctBelow}
 use Rattle.hh_shared.proofs.Tallies.{times-append, times-here}
 use Rattle.hh_pool.specs.Trees.{Refuses, merge_both, no_sketch, tree_result}
@@ -30,13 +30,13 @@ right-same l r n xs ys h others =
     result-same r xs ys (λ i some. others i (omega (arith, some, h.once i, times-append i (leaves l) (leaves r))))
 
 -- the left result is there: the node merges it with the right one, or is refused with it
-pub node-result : (l r : MergeTree) (n : ℕ) (xs ys : List SummaryView) (s : SummaryView) (right : Result SummaryView MergeFault)
+pub node-result : (l r : MergeTree) (n : ℕ) (xs ys : List SummaryView) (s : SummaryView) (right : Result SummaryView SummaryFault)
     → IsDistinctBelow n (leaves (Merge l r)) → AreOutside l xs ys
     → tree_result l xs ≡ Ok s → tree_result r ys ≡ right → tree_result (Merge l r) xs ≡ merge_both (Ok s) right
 node-result l r n xs ys s right h others left is = rw (left, sym (right-same l r n xs ys h others) ∙ is) refl
 
 -- a refusal of the right tree is one of the node
-pub node-refusal : (l r : MergeTree) (n : ℕ) (xs ys : List SummaryView) (s : SummaryView) (e : MergeFault)
+pub node-refusal : (l r : MergeTree) (n : ℕ) (xs ys : List SummaryView) (s : SummaryView) (e : SummaryFault)
     → IsDistinctBelow n (leaves (Merge l r)) → AreOutside l xs ys
     → tree_result l xs ≡ Ok s → Refuses (tree_result r ys) e → Refuses (tree_result (Merge l r) xs) e
 node-refusal l r n xs ys s fault.Memory h others left is = tt

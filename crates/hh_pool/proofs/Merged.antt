@@ -7,7 +7,7 @@ use Rattle.std.proofs.lemmas.Bool.Decides.{nat_tests}
 use Rattle.hh_stream.specs.Weights.{Bytes, Entry, weight_of, total_of, max_total}
 use Rattle.hh_stream.specs.Cuttings.{whole_of}
 use Rattle.hh_summaries.specs.Counters.{SummaryView, sketch_of, merge_of, misra_gries, IsHonest}
-use Rattle.hh_summaries.specs.declared.summary.MergeFault.{MergeFault}
+use Rattle.hh_summaries.specs.declared.fault.SummaryFault.{SummaryFault}
 use Rattle.hh_summaries.specs.Report.{contenders, keys_above}
 use Rattle.hh_counters.specs.Laws.{MisraGriesIsHonest, JoinOfHonestIsHonest, ContendersSuffice, PrunedSuffice}
 use Rattle.hh_shared.specs.Tally.{times}
@@ -116,7 +116,7 @@ pruned_enough contend thin s xs p q total ks keys numbers bound honest enough mo
     rw here (thin all bound xs p q most ∙ contend s xs p q honest enough)
 
 -- so no refusal comes
-pub no_refusal : (t : MergeTree) (k : ℕ) (pieces : List (List Entry)) (ss : List SummaryView) (e : MergeFault)
+pub no_refusal : (t : MergeTree) (k : ℕ) (pieces : List (List Entry)) (ss : List SummaryView) (e : SummaryFault)
     → IsMergeTree t (length pieces) → total_of (whole_of pieces) ≤ max_total
     → ss ≡ map (sketch_of k) pieces → tree_result t ss ≡ Err e → ⊥
 no_refusal t k pieces ss e tree most is refused =

@@ -1,11 +1,14 @@
 -- Tables that workers fill and merge.
-use Rattle.std.proofs.Common.{◌≡◌, ℕ, ◌≤◌, List, [], ◌∷◌, ◌++◌, length, sym, ap, ◌∙◌, subst, arith}
+use Rattle.std.proofs.Common.{◌≡◌, ◌≢◌, ℕ, ◌≤◌, Result, Err, List, [], ◌∷◌, ◌++◌, length, sym, ap, ◌∙◌, subst, arith}
 use Rattle.std.proofs.lemmas.Grind.{flat_map-append}
 use mathlib.Core.Logic.{dite}
 use native.Mathlib.Decide.{ℕ_discrete}
 use Rattle.hh_stream.specs.Weights.{Entry, max_total}
 use Rattle.hh_stream.specs.Cuttings.{whole_of}
 use Rattle.hh_countmin.specs.Family.{Coefficients}
+use Rattle.hh_countmin.specs.Faults.{IsMergeFault}
+use Rattle.hh_countmin.specs.declared.fault.TableFault.{TableFault}
+use Rattle.hh_countmin.specs.declared.fault.TableFault.TheVariants as fault
 use Rattle.hh_countmin.specs.Laws.{TablesFollowItems}
 use Rattle.hh_countmin.specs.Table.{TableView, at_cell, cells_by, grid_sum, table_of}
 use Rattle.hh_shared.specs.Tally.{AreDisjoint, IsDistinctBelow}
@@ -88,6 +91,19 @@ pub both_tables : TablesFollowItems → (family : Coefficients) (width : ℕ) (a
     → IsTable family width a → IsTable family width b → IsTable family width both
 both_tables law family width a b both e (xs, is) (ys, are) =
     (xs ++ ys, e ∙ ((λ i. grid_sum (is i) (are i)) ∙ (law family width xs ys ([], 0)).2))
+
+-- tables of one family and width are only refused for their total
+pub refused_for_total : {X : Type 0} (family : Coefficients) (width : ℕ) (a b : TableView) (merged : Result X TableFault)
+    (e : TableFault) → IsTable family width a → IsTable family width b → merged ≡ Err e → IsMergeFault e
+    → (merged ≡ Err fault.DifferentFamily → a.family ≢ b.family)
+    → (merged ≡ Err fault.DifferentWidth → (a.family ≡ b.family) × (a.width ≢ b.width))
+    → merged ≡ Err fault.TotalTooLarge
+refused_for_total _ _ a b merged fault.TotalTooLarge _ _ is _ _ _ = is
+refused_for_total _ _ a b merged fault.DifferentFamily (xs, one) (ys, other) is _ differ _ =
+    absurd (differ is (ap (λ (t : TableView). t.family) one ∙ sym (ap (λ (t : TableView). t.family) other)))
+refused_for_total _ _ a b merged fault.DifferentWidth (xs, one) (ys, other) is _ _ differ =
+    absurd ((differ is).1 (ap (λ (t : TableView). t.width) one ∙ sym (ap (λ (t : TableView). t.width) other)))
+refused_for_total _ _ a b merged _ _ _ _ other _ _ = absurd other
 
 -- what is known of a piece's items, where all are known
 pub added_known : {known : Type 0} (known_now : known) (piece : List Entry) (family : Coefficients) (width : ℕ)

@@ -8,7 +8,7 @@ use Rattle.hh_stream.specs.Cuttings.{whole_of}
 use Rattle.hh_stream.specs.Weights.{Bytes, Entry, at_key, max_total, weight_of}
 use Rattle.hh_summaries.specs.Counters.{Counters, IsHonest, SummaryView, merge_of}
 use Rattle.hh_counters.specs.Laws.{JoinOfHonestIsHonest}
-use Rattle.hh_summaries.specs.declared.summary.MergeFault.{MergeFault}
+use Rattle.hh_summaries.specs.declared.fault.SummaryFault.{SummaryFault}
 use Rattle.hh_pool.specs.Trees.{MergesHonestly, items_of, merge_both, no_sketch, tree_result, tree_value}
 use Rattle.hh_workers.specs.Trees.{IsMergeTree, MergeTree, Piece, Merge, leaves}
 use Rattle.hh_shared.specs.Tally.{times}
@@ -17,7 +17,7 @@ use Rattle.hh_workers.proofs.LeafFacts.{at-left, at-right, distinct-leaves, sum-
 use Rattle.hh_pool.proofs.PieceFacts.{sum_by-flat_map}
 
 -- a merge that went well had two results with one k
-both-ok : (a b : Result SummaryView MergeFault) (u : SummaryView) → merge_both a b ≡ Ok u
+both-ok : (a b : Result SummaryView SummaryFault) (u : SummaryView) → merge_both a b ≡ Ok u
     → (s : SummaryView) × (t : SummaryView) × (a ≡ Ok s) × (b ≡ Ok t) × (s.k ≡ t.k) × (merge_of s t ≡ u)
 both-ok (Err e) b u h = cc h
 both-ok (Ok s) (Err e) u h = cc h
@@ -25,8 +25,8 @@ both-ok (Ok s) (Ok t) u h = by (eqb_tells s.k t.k) (nat_le (s.total + t.total) m
   where
     by : ((s.k == t.k) ≡ true) × (s.k ≡ t.k) ⊎ ((s.k == t.k) ≡ false) × (s.k ≢ t.k) → (b : Bool)
         → nat_le (s.total + t.total) max_total ≡ b
-        → (s' : SummaryView) × (t' : SummaryView) × (◌≡◌ {A = Result SummaryView MergeFault} (Ok s) (Ok s'))
-        × (◌≡◌ {A = Result SummaryView MergeFault} (Ok t) (Ok t')) × (s'.k ≡ t'.k) × (merge_of s' t' ≡ u)
+        → (s' : SummaryView) × (t' : SummaryView) × (◌≡◌ {A = Result SummaryView SummaryFault} (Ok s) (Ok s'))
+        × (◌≡◌ {A = Result SummaryView SummaryFault} (Ok t) (Ok t')) × (s'.k ≡ t'.k) × (merge_of s' t' ≡ u)
     by (inr e) b f = let bad = rw e.0 at h in cc bad
     by (inl e) false f = let bad = rw (e.0, f) at h in cc bad
     by (inl e) true f = let fine = rw (e.0, f) at h in (s, t, refl, refl, e.1, cc fine)

@@ -19,7 +19,7 @@ use crate::options::Options;
 use crate::outcome::{Outcome, RunError};
 use crate::second::SecondPass;
 use hh_counters::laws::{contenders_suffice, misra_gries_is_honest, pruned_suffice};
-use hh_counters::{Candidates, Heavy, MergeFault, Summary};
+use hh_counters::{Candidates, Heavy, Summary, SummaryFault};
 use hh_countmin::Table;
 use hh_countmin::laws::{cells_are_cell_sums, estimate_is_never_below, tables_fit};
 use hh_stream::laws::pieces_make_the_whole;
@@ -187,10 +187,11 @@ fn merge_pieces<R: Threads + Wait + Sync, P: Pieces + Sync, G: Gate + Sync>(
     let _total = table.total();
     match merge_by(alloc, plan, summaries) {
         Ok(summary) => Ok((summary, table)),
-        Err(MergeFault::Memory) => Err(PieceFault::Memory),
+        Err(SummaryFault::Memory) => Err(PieceFault::Memory),
         // Only pieces that changed while they were read come to this.
-        Err(MergeFault::DifferentK) => Err(PieceFault::Refused),
-        Err(MergeFault::TotalTooLarge) => Err(PieceFault::Refused),
+        Err(SummaryFault::DifferentK) => Err(PieceFault::Refused),
+        Err(SummaryFault::TotalTooLarge) => Err(PieceFault::Refused),
+        Err(SummaryFault::BadK) => Err(PieceFault::Refused),
     }
 }
 

@@ -17,7 +17,7 @@ mod tallying;
 pub use analysis::analyse;
 pub use first::{first_pass, first_pass_sequentially};
 pub use hh_stream::PieceFault;
-pub use hh_workers::{CutStream, Gate, MAX_WORKERS, OpenGate, Pieces, Plan, PlanFault};
+pub use hh_workers::{CutStream, Gate, MAX_WORKERS, OpenGate, Pieces, Plan};
 pub use merging::merge_by;
 pub use one_pass::{count_pieces, tabulate_pieces};
 pub use options::{Options, OptionsFault};

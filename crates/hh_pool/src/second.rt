@@ -11,7 +11,7 @@ ghost use Rattle.hh_workers.specs.Pieces.{piece_of};
 ghost use Rattle.hh_pool.specs.Progress.{AreCounted, IsCountedOn};
 
 use crate::first::sum_of_totals;
-use hh_counters::{CandidateCounts, Candidates};
+use hh_counters::{Candidates, Counts};
 use hh_shared::{SharedSums, SumSeat};
 use hh_stream::laws::pieces_make_the_whole;
 use hh_stream::{Cutting, PieceFault, Stream, TakeItems};
@@ -94,7 +94,7 @@ pub fn second_pass_sequentially<G: Gate>(
 
 impl<'a, 'c, P: Pieces, G: Gate> SecondPass<'a, 'c, P, G> {
     // Counts the candidates of a piece, which isn't read where there are none.
-    fn count_piece(&self, counts: &mut CandidateCounts, piece: usize) -> Result<(), PieceFault>
+    fn count_piece(&self, counts: &mut Counts, piece: usize) -> Result<(), PieceFault>
         requires { piece < length (P.pieces self.now.pieces.now) }
         ensures counted { let pieces = self.now.pieces.now in OnOk result
             (IsCountedOn (λ xs. P.known pieces → xs ≡ piece_of (P.pieces pieces) piece)
@@ -132,7 +132,7 @@ impl<'a, 'c, P: Pieces, G: Gate> SecondPass<'a, 'c, P, G> {
 }
 
 impl<'a, 'c, P: Pieces, G: Gate> Pass for SecondPass<'a, 'c, P, G> {
-    type Local = CandidateCounts<'c>;
+    type Local = Counts<'c>;
 
     type Partial = u64;
 
@@ -161,22 +161,22 @@ impl<'a, 'c, P: Pieces, G: Gate> Pass for SecondPass<'a, 'c, P, G> {
         self.pieces.count()
     }
 
-    fn begin(&self) -> Result<CandidateCounts<'c>, AllocError> {
-        CandidateCounts::new(self.alloc, self.candidates)
+    fn begin(&self) -> Result<Counts<'c>, AllocError> {
+        Counts::new(self.alloc, self.candidates)
     }
 
     fn take(
         &self,
-        mut made: CandidateCounts<'c>,
+        mut made: Counts<'c>,
         worker: u64,
         piece: usize,
-    ) -> Result<CandidateCounts<'c>, PieceFault> {
+    ) -> Result<Counts<'c>, PieceFault> {
         self.gate.before(2, worker, piece as u64);
         self.count_piece(&mut made, piece)?;
         Ok(made)
     }
 
-    fn finish(&self, sums: &SharedSums, seat: &mut SumSeat, made: CandidateCounts<'c>) -> u64 {
+    fn finish(&self, sums: &SharedSums, seat: &mut SumSeat, made: Counts<'c>) -> u64 {
         let total = made.total();
         add_numbers(sums, seat, &made.into_weights());
         total

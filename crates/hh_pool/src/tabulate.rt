@@ -13,7 +13,7 @@ ghost use Rattle.hh_pool.specs.Tabulated.{IsAdded, IsTable};
 ghost use Rattle.hh_workers.specs.Workers.{max_workers};
 
 use hh_countmin::laws::tables_follow_items;
-use hh_countmin::{Family, MergeFault, Table};
+use hh_countmin::{Family, Table, TableFault};
 use hh_shared::{SharedSums, SumSeat};
 use hh_stream::PieceFault;
 use hh_workers::{Gate, Pass, Pieces, found_or_made, share_work};
@@ -106,11 +106,8 @@ impl<'a, P: Pieces, G: Gate> Pass for TablePass<'a, P, G> {
                 let _total = one.total();
                 Ok(one)
             }
-            Err(MergeFault::TotalTooLarge) => Err(PieceFault::Refused),
-            // All tables have one family and width.
-            Err(MergeFault::DifferentFamily | MergeFault::DifferentWidth) => {
-                Err(PieceFault::Refused)
-            }
+            // The total is too large, since all tables have one family and width.
+            Err(_) => Err(PieceFault::Refused),
         }
     }
 }

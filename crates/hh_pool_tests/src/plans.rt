@@ -3,7 +3,7 @@
 ghost use Rattle.std.specs.Prelude.{◌<◌};
 
 use crate::fixtures::{assert_same, counter_of, key_of};
-use hh_counters::{MergeFault, Summary};
+use hh_counters::{Summary, SummaryFault};
 use hh_pool::{Plan, merge_by};
 use std::process::Abort;
 
@@ -21,7 +21,7 @@ fn merge_all(
     rt: &(impl Abort + AllocGlobal),
     plan: &Plan,
     summaries: Vec<Summary>,
-) -> Result<Summary, MergeFault> {
+) -> Result<Summary, SummaryFault> {
     assert!(rt; plan.count() == summaries.len());
     merge_by(rt.alloc(), plan, summaries)
 }
@@ -71,5 +71,5 @@ fn different_k_is_not_merged(rt: HostRuntime) {
     let summaries = vec![in rt.alloc(); one(&rt, 2, b"a", 1), one(&rt, 3, b"a", 1)];
     let plan = plan_of(&rt, b"(0 1)", 2);
     let refused = merge_all(&rt, &plan, summaries.expect(&rt, "room")).err();
-    assert_same(&rt, refused, Some(MergeFault::DifferentK));
+    assert_same(&rt, refused, Some(SummaryFault::DifferentK));
 }

@@ -22,16 +22,14 @@ use Rattle.hh_faults.specs.declared.records.BadRecordCause.{BadRecordCause}
 use Rattle.hh_faults.specs.declared.records.BadRecordCause.TheVariants as cause
 use Rattle.hh_faults.specs.declared.records.TextError.{TextError}
 use Rattle.hh_faults.specs.declared.records.TextError.TheVariants as text
-use Rattle.hh_records.specs.declared.records.RecordFault.{RecordFault}
-use Rattle.hh_records.specs.declared.records.RecordFault.TheVariants as fault
-use Rattle.hh_records.specs.Layouts.{ColumnsRefused, IsPlain, IsStart, OpenRefused, Opens, PartsRefused, RowsRefused, added, adding_next, adds, adds_instead, adds_itself, between, by_columns, chosen_places, columns_among, config_of, configured, counted_as, field_names, gathered, headed_parts, items_after, joined, member_names, names_columns, parts_at, parts_by, places_in, text_parts, texts_parts}
+use Rattle.hh_records.specs.Layouts.{ColumnsRefused, IsPlain, IsStart, OpenRefused, Opens, RecordRefused, RowsRefused, added, adding_next, adds, adds_instead, adds_itself, between, by_columns, chosen_places, columns_among, config_of, configured, counted_as, field_names, gathered, headed_parts, items_after, joined, member_names, names_columns, parts_at, parts_by, places_in, text_parts, texts_parts}
 use Rattle.hh_records.specs.declared.layout.ChosenLayout.{ChosenLayout}
 use Rattle.hh_records.specs.declared.layout.Layout.{Layout}
 use Rattle.hh_records.specs.declared.retrying.Retrying.{Retrying}
 use Rattle.hh_records.proofs.FormatFacts.{whole-parts}
 use Rattle.hh_records.specs.Formats.{byte_between, fields_by, has_quotes, part_said}
 use Rattle.hh_records.specs.Laws.{PlainLayoutsReadStreams}
-use Rattle.hh_records.specs.Streams.{Fields, Parts, Reading, item_of_parts, items_from, numbered_fault, parts_of, reading_next}
+use Rattle.hh_records.specs.Streams.{Fields, Parts, Reading, item_of_parts, items_from, parts_of, reading_next}
 
 -- a state where the text may end with no record
 Quiet : State × Action → Type 0
@@ -296,21 +294,22 @@ module _ (cfg : Config) (f : Fields → Parts) (layout : Layout) (s0 : State) (b
         rw (all, no-records cfg a.state y m none, append-nil rows) (items, omega (arith, size, count))
 
     -- a record that was not taken
-    pub read-refused : (known : Option (List ℕ)) (x : RecordFault) → IfSome known (λ bytes. ends_at_end s0 ≡ false)
+    pub read-refused : (known : Option (List ℕ)) (x : TextError) → IfSome known (λ bytes. ends_at_end s0 ≡ false)
         → ReadSoFar cfg f layout s0 before t known (source_of rem a) a.state xs n
-        → ReadRecord rem a b true row → PartsRefused layout (t + total_of xs) (f row) x
-        → RowsRefused layout before t (left_from cfg f s0 known) (numbered_fault (n + 1) x)
+        → ReadRecord rem a b true row → RecordRefused (n + 1) (adds layout (t + total_of xs) (f row)) x
+        → RowsRefused layout before t (left_from cfg f s0 known) x
     unfolding items_after
-    read-refused known fault.Memory q h r j = tt
-    read-refused None (fault.Bad x) q h r j = tt
-    read-refused (Some text) (fault.Bad x) q (y, source, rows, reached, items, count) r j =
-        let (z, at, more) = rows-more rem a b row cfg s0 text y rows config source reached r in
-        let (m, all) = records-reached cfg s0 b.state text z (rows ++ row ∷ []) q more in
+    read-refused known text.Memory q h r j = tt
+    read-refused None (text.BadRecord l x) q h r j = tt
+    read-refused (Some bytes) (text.BadRecord l x) q (y, source, rows, reached, items, count) r (same, j) =
+        let (z, at, more) = rows-more rem a b row cfg s0 bytes y rows config source reached r in
+        let (m, all) = records-reached cfg s0 b.state bytes z (rows ++ row ∷ []) q more in
         let rest = records_from cfg m b.state z in
         let parts : map f (rows ++ row ∷ rest) ≡ map f rows ++ f row ∷ map f rest = map-append f rows (row ∷ rest) in
         let size = length-map rows f in
         let number : before + 1 + length (map f rows) ≡ n + 1 = omega (arith, size, count) in
         rw (
+          same,
           all,
           append_assoc rows (row ∷ []) rest,
           parts,
@@ -318,6 +317,7 @@ module _ (cfg : Config) (f : Fields → Parts) (layout : Layout) (s0 : State) (b
           j,
           number,
         ) refl
+    read-refused known _ q h r j = absurd j
 
 -- a header was read: the records after it are those that are left
 pub header-taken : {R : Type 0} (rem : R → Option (List ℕ)) (a b : Reader R) (f : Fields) (cfg : Config) (y : List ℕ)

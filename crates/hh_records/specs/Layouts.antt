@@ -26,8 +26,6 @@ use Rattle.hh_records.specs.declared.layout.Layout.{Layout}
 use Rattle.hh_records.specs.declared.layout.ChosenLayout.{ChosenLayout}
 use Rattle.hh_faults.specs.declared.records.BadRecordCause.{BadRecordCause}
 use Rattle.hh_faults.specs.declared.records.BadRecordCause.TheVariants as cause
-use Rattle.hh_records.specs.declared.records.RecordFault.{RecordFault}
-use Rattle.hh_records.specs.declared.records.RecordFault.TheVariants as fault
 use Rattle.hh_records.specs.declared.retrying.Retrying.{Retrying}
 use Rattle.hh_records.specs.declared.texts.Records.{Records}
 use Rattle.hh_records.specs.declared.texts.Text.{Text}
@@ -308,15 +306,11 @@ texts_parts layout texts = gathered (text_parts layout) texts
 abbrev pub stream_with : Layout → List (List ℕ) → Option Reading
 stream_with layout texts = option_map (items_after layout 1 0) (texts_parts layout texts)
 
--- what a refusal of a record says, where this is what it adds
-abbrev pub InsteadRefused : Result (List Entry) BadRecordCause → RecordFault → Type 0
-InsteadRefused added (fault.Bad c) = added ≡ Err c
-InsteadRefused added fault.Memory = ⊤
-
--- what a refusal of a record says
-abbrev pub PartsRefused : Layout → ℕ → Parts → RecordFault → Type 0
-PartsRefused layout t p (fault.Bad c) = adds layout t p ≡ Err c
-PartsRefused layout t p fault.Memory = ⊤
+-- what the refusal of record n tells, where this is what it adds
+abbrev pub RecordRefused : ℕ → Result (List Entry) BadRecordCause → TextError → Type 0
+RecordRefused n added (text.BadRecord m c) = (m ≡ n) × (added ≡ Err c)
+RecordRefused n added text.Memory = ⊤
+RecordRefused n added _ = ⊥
 
 -- the bytes that a reader of records has left, where they are known
 abbrev pub unread : {R : Type 0} → (R → Option (List ℕ)) → Reader (Retrying R) → Option (List ℕ)

@@ -9,8 +9,6 @@ use Rattle.hh_faults.specs.declared.records.BadRecordCause.{BadRecordCause}
 use Rattle.hh_faults.specs.declared.records.BadRecordCause.TheVariants as cause
 use Rattle.hh_faults.specs.declared.records.TextError.{TextError}
 use Rattle.hh_faults.specs.declared.records.TextError.TheVariants as text
-use Rattle.hh_records.specs.declared.records.RecordFault.{RecordFault}
-use Rattle.hh_records.specs.declared.records.RecordFault.TheVariants as fault
 
 -- the fields of a record
 abbrev pub Fields : Type 0
@@ -106,8 +104,3 @@ ReadsAs known reading = IfSome known.reading (λ r. r ≡ Some reading)
 abbrev pub fault_of : ErrorKind → TextError
 fault_of kind.OutOfMemory = text.Memory
 fault_of _ = text.ReadFault
-
--- the refusal that has a record's number with its fault
-abbrev pub numbered_fault : ℕ → RecordFault → TextError
-numbered_fault n (fault.Bad c) = text.BadRecord n c
-numbered_fault n fault.Memory = text.Memory

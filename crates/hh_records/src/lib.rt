@@ -20,7 +20,5 @@ pub use hh_faults::{BadRecordCause, TextError};
 pub use hh_stream::TakeItems;
 pub use layout::{BadAs, ChosenLayout, Column, ColumnIndices, Layout, column_of, delimiter_of};
 pub use layout_words::{LayoutWords, layout_of};
-pub use records::{
-    RecordFault, number_in, numbered_fault, read_items, read_rows, read_stream, take_parts,
-};
+pub use records::{number_in, read_items, read_rows, read_stream, take_parts};
 pub use texts::{ReadRecords, Records, Text, open, read_records, read_texts};

@@ -9,9 +9,8 @@ ghost use Rattle.hh_stream.specs.Digits.{is_number, value_of};
 ghost use Rattle.hh_stream.specs.Taking.{Takes};
 ghost use Rattle.hh_records.specs.Formats.{part_said, with_part};
 ghost use Rattle.hh_records.specs.Layouts.{parts_by, chosen_columns};
-ghost use Rattle.hh_records.specs.Layouts.{InsteadRefused, IsText, PartsRefused, RowsRefused, TextsRefused, adds, adds_instead, adds_itself, bad_key, chosen_places, fields_at, is_hyphen, items_after, items_of_weight, key_of, parts_at, parts_left, weight_at, weight_by};
-ghost use Rattle.hh_records.specs.declared.records.RecordFault.TheVariants.{Memory};
-ghost use Rattle.hh_records.specs.Streams.{fault_of, numbered_fault, parts_of, ReadsAs, text_known};
+ghost use Rattle.hh_records.specs.Layouts.{IsText, RecordRefused, RowsRefused, TextsRefused, adds, adds_instead, adds_itself, bad_key, chosen_places, fields_at, is_hyphen, items_after, items_of_weight, key_of, parts_at, parts_left, weight_at, weight_by};
+ghost use Rattle.hh_records.specs.Streams.{fault_of, parts_of, ReadsAs, text_known};
 ghost use Rattle.hh_records.specs.Taking.{TakesItems};
 
 use crate::decimals::{scaled, units_in};
@@ -24,13 +23,6 @@ use hh_faults::{BadRecordCause, TextError};
 use hh_stream::{MAX_KEY_LEN, MAX_TOTAL, Stream, TakeItems};
 use std::alloc::{AllocError, Global};
 use std::io::Read;
-
-/// Why a record was not taken.
-#[derive(Clone, Copy)]
-pub enum RecordFault {
-    Bad(BadRecordCause),
-    Memory,
-}
 
 /// Reads the number that 1 to `most` digits write, at most the largest `u64`.
 pub fn number_in(field: &[u8], most: usize) -> Option<u64>
@@ -135,7 +127,7 @@ fn take_weight<T: TakeItems>(
     taker: &mut T,
     key: &[u8],
     weight: u64,
-) -> Result<(), RecordFault>
+) -> Result<(), AllocError>
     requires some { 0 < length key.now }
     requires few { length key.now ≤ max_key_len }
     requires bounded { T.weight_taken taker.old + weight ≤ max_total }
@@ -143,77 +135,82 @@ fn take_weight<T: TakeItems>(
         (Takes T.with_item T.weight_taken taker.old taker.new (λ xs.
         xs ≡ items_of_weight key.now weight)) }
     ensures bounded { OnOk result (T.weight_taken taker.new ≤ max_total) }
-    ensures refused { IfErr result (λ fault. fault ≡ Memory) }
 {
     if weight == 0 {
         return Ok(());
     }
-    match taker.take(alloc, key, weight) {
-        Ok(()) => Ok(()),
-        Err(AllocError) => Err(RecordFault::Memory),
-    }
+    taker.take(alloc, key, weight)
 }
 
-/// Hands on what a record adds that fails a test of this `cause`: where bad records count as a key,
-/// an item of it, of weight 1, and then counts one more `bad` record.
+/// Hands on what record `number` adds that fails a test of this `cause`: where bad records count as
+/// a key, an item of it, of weight 1, and then counts one more `bad` record.
 #[cold]
 fn take_bad<T: TakeItems>(
     alloc: Global,
     taker: &mut T,
+    number: u64,
     cause: BadRecordCause,
     bad: &mut u64,
     layout: &Layout,
-) -> Result<(), RecordFault>
+) -> Result<(), TextError>
     requires bounded { T.weight_taken taker.old ≤ max_total }
     ensures taken { OnOk result
         (Takes T.with_item T.weight_taken taker.old taker.new (λ xs.
         adds_instead layout.now (T.weight_taken taker.old) (bad_key layout.now) cause ≡ Ok xs)) }
     ensures bounded { OnOk result (T.weight_taken taker.new ≤ max_total) }
-    ensures refused { IfErr result (λ fault. InsteadRefused
-        (adds_instead layout.now (T.weight_taken taker.old) (bad_key layout.now) cause) fault) }
+    ensures refused { IfErr result (RecordRefused number
+        (adds_instead layout.now (T.weight_taken taker.old) (bad_key layout.now) cause)) }
 {
     let Some(bad_as) = &layout.bad_as else {
-        return Err(RecordFault::Bad(cause));
+        return Err(TextError::BadRecord { number, cause });
     };
     if matches!(cause, BadRecordCause::TotalTooLarge) {
-        return Err(RecordFault::Bad(cause));
+        return Err(TextError::BadRecord { number, cause });
     }
     let key = bad_as.key.as_slice();
     match weight_added(key, None, taker.total(), layout) {
         Ok(weight) => {
             *bad = bad.saturating_add(1);
-            take_weight(alloc, taker, key, weight)
+            Ok(take_weight(alloc, taker, key, weight)?)
         }
-        Err(cause) => Err(RecordFault::Bad(cause)),
+        Err(cause) => Err(TextError::BadRecord { number, cause }),
     }
 }
 
-/// Hands on what a record of this key and weight's field adds, or one that hasn't the fields for
-/// them. It counts one more `bad` record where it counts as an item of another key.
+/// Hands on what record `number` adds, of this key and weight's field, or one that hasn't the
+/// fields for them. It counts one more `bad` record where it counts as an item of another key.
 #[inline(always)]
 pub fn take_parts<T: TakeItems>(
     alloc: Global,
     taker: &mut T,
+    number: u64,
     parts: Option<(&[u8], Option<&[u8]>)>,
     bad: &mut u64,
     layout: &Layout,
-) -> Result<(), RecordFault>
+) -> Result<(), TextError>
     requires bounded { T.weight_taken taker.old ≤ max_total }
     ensures taken { OnOk result
         (Takes T.with_item T.weight_taken taker.old taker.new (λ xs.
         adds layout.now (T.weight_taken taker.old)
         (option_map (λ p. (p.0.now, option_map (λ f. f.now) p.1)) parts.entry) ≡ Ok xs)) }
     ensures bounded { OnOk result (T.weight_taken taker.new ≤ max_total) }
-    ensures refused { IfErr result (λ fault.
-        PartsRefused layout.now (T.weight_taken taker.old)
-        (option_map (λ p. (p.0.now, option_map (λ f. f.now) p.1)) parts.entry) fault) }
+    ensures refused { IfErr result (RecordRefused number
+        (adds layout.now (T.weight_taken taker.old)
+        (option_map (λ p. (p.0.now, option_map (λ f. f.now) p.1)) parts.entry))) }
 {
     let Some((key, field)) = parts else {
-        return take_bad(alloc, taker, BadRecordCause::FieldCount, bad, layout);
+        return take_bad(
+            alloc,
+            taker,
+            number,
+            BadRecordCause::FieldCount,
+            bad,
+            layout,
+        );
     };
     match weight_added(key, field, taker.total(), layout) {
-        Ok(weight) => take_weight(alloc, taker, key, weight),
-        Err(cause) => take_bad(alloc, taker, cause, bad, layout),
+        Ok(weight) => Ok(take_weight(alloc, taker, key, weight)?),
+        Err(cause) => take_bad(alloc, taker, number, cause, bad, layout),
     }
 }
 
@@ -356,40 +353,29 @@ impl Room {
     }
 }
 
-/// Hands on what the record adds that was read last.
+/// Hands on what the record adds that was read last, which has this `number`.
 #[inline(always)]
 fn take_record<T: TakeItems>(
     taker: &mut T,
     room: &mut Room,
     chosen: &ChosenLayout,
+    number: u64,
     bad: &mut u64,
     layout: &Layout,
-) -> Result<(), RecordFault>
+) -> Result<(), TextError>
     requires bounded { T.weight_taken taker.old ≤ max_total }
     ensures taken { OnOk result
         (Takes T.with_item T.weight_taken taker.old taker.new (λ xs.
         adds layout.now (T.weight_taken taker.old)
         (parts_at (chosen_places chosen.now) (fields_of room.old.row)) ≡ Ok xs)) }
     ensures bounded { OnOk result (T.weight_taken taker.new ≤ max_total) }
-    ensures refused { IfErr result (λ fault.
-        PartsRefused layout.now (T.weight_taken taker.old)
-        (parts_at (chosen_places chosen.now) (fields_of room.old.row)) fault) }
+    ensures refused { IfErr result (RecordRefused number
+        (adds layout.now (T.weight_taken taker.old)
+        (parts_at (chosen_places chosen.now) (fields_of room.old.row)))) }
 {
     let alloc = room.alloc;
-    match room.parts(chosen) {
-        Ok(parts) => take_parts(alloc, taker, parts, bad, layout),
-        Err(AllocError) => Err(RecordFault::Memory),
-    }
-}
-
-/// Gives the error that has the `number` of a record with its `fault`.
-pub fn numbered_fault(number: u64, fault: RecordFault) -> TextError
-    ensures { result ≡ numbered_fault number fault }
-{
-    match fault {
-        RecordFault::Bad(cause) => TextError::BadRecord { number, cause },
-        RecordFault::Memory => TextError::Memory,
-    }
+    let parts = room.parts(chosen)?;
+    take_parts(alloc, taker, number, parts, bad, layout)
 }
 
 /// The error that a fault of `csv`'s reader is: its want of memory, or a failure of the reader
@@ -439,10 +425,7 @@ fn take_rows<R: Read, T: TakeItems>(
             Err(error) => return Err(fault_of(error.kind())),
         }
         number += 1;
-        match take_record(taker, room, chosen, bad, layout) {
-            Ok(()) => {}
-            Err(fault) => return Err(numbered_fault(number, fault)),
-        }
+        take_record(taker, room, chosen, number, bad, layout)?;
     }
     Err(TextError::ReadFault)
 }
@@ -478,7 +461,8 @@ pub fn read_rows<R: Read + Drop, T: TakeItems>(
 /// Records and their tests are those of [`read_stream`], so each weight is at least 1.
 ///
 /// The first record that fails a test, or that the taker has no memory for, ends the reading, as
-/// does a reader that fails. A read that a signal interrupts is tried again.
+/// does a reader that fails. [`TextError::NoColumn`] doesn't come. A read that a signal interrupts
+/// is tried again.
 pub fn read_items<R: Read + Drop, T: TakeItems>(
     alloc: Global,
     reader: R,
@@ -498,7 +482,7 @@ pub fn read_items<R: Read + Drop, T: TakeItems>(
 /// and a key may be any 1 to 4,096 bytes.
 ///
 /// The first record that fails a test ends the reading: the error has its number, from 1 on, and
-/// the cause. A read that a signal interrupts is tried again.
+/// the cause. [`TextError::NoColumn`] doesn't come. A read that a signal interrupts is tried again.
 pub fn read_stream<R: Read + Drop>(alloc: Global, reader: R) -> Result<Stream, TextError>
     ensures stream { IfOk result (λ stream.
         ReadsAs (text_known (R.remaining reader)) (Ok stream)) }

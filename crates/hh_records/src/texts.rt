@@ -77,10 +77,7 @@ fn after_header<R: Read>(
         Ok(false) => return Ok(None),
         Err(error) => return Err(fault_of(error.kind())),
     }
-    match choose(alloc, layout, &header) {
-        Ok(chosen) => Ok(Some(chosen)),
-        Err(fault) => Err(fault),
-    }
+    Ok(Some(choose(alloc, layout, &header)?))
 }
 
 /// A text whose records are to be read by a layout, after its header where it is to have one.
@@ -99,19 +96,14 @@ pub fn open<R: Read + Drop>(
         (option_map (text_parts layout.now) (R.remaining reader)) error) }
 {
     if !layout.has_header {
-        return match choose(alloc, layout, &ByteRecord::new(alloc)) {
-            Ok(chosen) => {
-                let rows = rows_of(alloc, reader, layout);
-                Ok(Some(Text { rows, chosen }))
-            }
-            Err(fault) => Err(fault),
-        };
+        let chosen = choose(alloc, layout, &ByteRecord::new(alloc))?;
+        let rows = rows_of(alloc, reader, layout);
+        return Ok(Some(Text { rows, chosen }));
     }
     let mut rows = rows_of(alloc, reader, layout);
-    match after_header(alloc, &mut rows, layout) {
-        Ok(Some(chosen)) => Ok(Some(Text { rows, chosen })),
-        Ok(None) => Ok(None),
-        Err(error) => Err(error),
+    match after_header(alloc, &mut rows, layout)? {
+        Some(chosen) => Ok(Some(Text { rows, chosen })),
+        None => Ok(None),
     }
 }
 
@@ -357,13 +349,9 @@ fn read_each<R: Read + Drop, T: TakeItems>(
     let texts = open_all(alloc, first, others, layout)?;
     let mut taker = taker;
     let mut bad = 0;
-    match read_all(alloc, texts, &mut taker, &mut bad, layout) {
-        Ok(()) => {
-            layout.set_bad_count(bad);
-            Ok(taker)
-        }
-        Err(error) => Err(error),
-    }
+    read_all(alloc, texts, &mut taker, &mut bad, layout)?;
+    layout.set_bad_count(bad);
+    Ok(taker)
 }
 
 /// Gives the most digits that a weight of `layout` has after a point.

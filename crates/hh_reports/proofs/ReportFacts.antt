@@ -1,13 +1,15 @@
 -- Reports that are written, and those with no option of rows.
-use Rattle.std.proofs.Common.{◌≡◌, ℕ, List, Option, Some, None, Result, Ok, Err, ap, subst}
+use Rattle.std.proofs.Common.{◌≡◌, ℕ, List, Option, Some, None, Result, Ok, Err, Global, Vec, ap, subst}
 use Rattle.std.specs.Prelude.{IfErr, IfSome, OnOk}
 use Rattle.std.specs.Io.KnownBytes.{Appends}
+use Rattle.hh_workers.specs.PlanTexts.{PlanRefused}
 use Rattle.hh_rows.specs.Printed.{plain_rows}
 use Rattle.hh_rows.specs.Sinks.{TextNotWritten}
 use Rattle.hh_records.specs.Streams.{Known}
 use Rattle.hh_rows.specs.declared.printed.RowOptions.{RowOptions}
 use Rattle.hh_reports.specs.Report.{AreOptions, AreWritten, IsPrinted, IsReported, PlanNotMade, PrintRefused, ReportRefused, StartRefused, WriteRefused, bad_option}
 use Rattle.hh_rows.specs.declared.report_options.ReportOptions.{ReportOptions}
+use Rattle.hh_rows.specs.declared.report_options.Tree.TheVariants as tree
 use Rattle.hh_faults.specs.declared.error.ToolError.{ToolError}
 use Rattle.hh_faults.specs.declared.error.ToolError.TheVariants as tool
 
@@ -19,6 +21,13 @@ pub fault_is : (A B : Type 0) {E : Type 0} (o : Option E) (e : E) → IfSome o (
     → IfSome o (λ f. ◌≡◌ {A = Result B E} (Err e) (Err f))
 fault_is A B None e h = tt
 fault_is A B (Some f) e h = ap Err (fault_same A e f h)
+
+-- a text that is no plan of the pieces makes none
+pub text_unmade : (t : Vec ℕ Global) (pieces : ℕ) (e : ToolError) → PlanRefused t.items pieces e
+    → PlanNotMade (tree.Text t) pieces e
+text_unmade t pieces (tool.BadTree f) h = h
+text_unmade t pieces tool.Memory h = tt
+text_unmade t pieces e h = absurd h
 
 -- options whose tree has no plan are refused
 pub no_plan : (o : ReportOptions) (known : Known) (e : ToolError) → bad_option o ≡ None → PlanNotMade o.tree o.pieces e

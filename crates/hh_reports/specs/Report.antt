@@ -10,8 +10,6 @@ use Rattle.hh_workers.specs.PlanTexts.{PlanRefused, SpellsTree}
 use Rattle.hh_pool.specs.Settings.{Settings}
 use Rattle.hh_workers.specs.Workers.{max_workers}
 use Rattle.hh_workers.specs.Trees.{IsBalanced, IsMergeTree, MergeTree, chain_of}
-use Rattle.hh_workers.specs.declared.parsing.PlanFault.{PlanFault}
-use Rattle.hh_workers.specs.declared.parsing.PlanFault.TheVariants as plan
 use Rattle.hh_stream.specs.Ranges.{in_range}
 use Rattle.hh_rows.specs.Printed.{printed_rows}
 use Rattle.hh_rows.specs.Rows.{rows_of}
@@ -23,7 +21,6 @@ use Rattle.hh_records.specs.Refusals.{RecordsRefused}
 use Rattle.hh_faults.specs.declared.error.ToolError.{ToolError}
 use Rattle.hh_faults.specs.declared.error.ToolError.TheVariants as tool
 use Rattle.hh_faults.specs.declared.error.TreeFault.{TreeFault}
-use Rattle.hh_faults.specs.declared.error.TreeFault.TheVariants as bad
 use Rattle.hh_reports.specs.declared.report.Prepared.{Prepared}
 use Rattle.hh_rows.specs.declared.report_options.ReportOptions.{ReportOptions}
 use Rattle.hh_rows.specs.declared.report_options.Tree.{Tree}
@@ -71,17 +68,10 @@ Names (tree.Text t) pieces plan = SpellsTree t.items plan × IsMergeTree plan pi
 abbrev pub IsTree : Tree → ℕ → Type 0
 IsTree t pieces = (plan : MergeTree) × Names t pieces plan
 
--- a fault of a plan's text as a fault of its tree
-abbrev pub plan_fault : TreeFault → PlanFault
-plan_fault (bad.Syntax n) = plan.Syntax n
-plan_fault (bad.UnknownPiece n) = plan.UnknownPiece n
-plan_fault (bad.RepeatedPiece n) = plan.RepeatedPiece n
-plan_fault (bad.MissingPiece n) = plan.MissingPiece n
-
+-- what is wrong with a tree that is no plan of `pieces` pieces
 abbrev pub TreeRefused : Tree → ℕ → TreeFault → Type 0
-TreeRefused tree.Chain pieces f = ⊥
-TreeRefused tree.Balanced pieces f = ⊥
-TreeRefused (tree.Text t) pieces f = PlanRefused t.items pieces (plan_fault f)
+TreeRefused (tree.Text t) pieces f = PlanRefused t.items pieces (tool.BadTree f)
+TreeRefused _ pieces f = ⊥
 
 -- what a refusal to make the plan of a tree tells
 abbrev pub PlanNotMade : Tree → ℕ → ToolError → Type 0

@@ -19,8 +19,8 @@ ghost use Rattle.hh_rows.specs.Sinks.{failed_by};
 
 use hh_counters::{Heavy, MAX_K};
 use hh_countmin::{Family, MAX_DEPTH, MAX_WIDTH};
-use hh_faults::{ToolError, TreeFault};
-use hh_pool::{MAX_WORKERS, OpenGate, Options, Plan, PlanFault, RunError, analyse};
+use hh_faults::ToolError;
+use hh_pool::{MAX_WORKERS, OpenGate, Options, Plan, RunError, analyse};
 use hh_records::{Records, read_records};
 use hh_rows::{ReportOptions, RowOptions, Sink, Tree, threshold_of, write_printed};
 use hh_stream::{Cutting, KeyHash, MAX_PIECES, Stream, in_range};
@@ -70,20 +70,7 @@ fn plan_of(alloc: Global, tree: &Tree, pieces: usize) -> Result<Plan, ToolError>
     match tree {
         Tree::Chain => Ok(Plan::chain(alloc, pieces)?),
         Tree::Balanced => Ok(Plan::balanced(alloc, pieces)?),
-        Tree::Text(text) => match Plan::parse(alloc, text, pieces) {
-            Ok(plan) => Ok(plan),
-            Err(PlanFault::Syntax(at)) => Err(ToolError::BadTree(TreeFault::Syntax(at))),
-            Err(PlanFault::UnknownPiece(piece)) => {
-                Err(ToolError::BadTree(TreeFault::UnknownPiece(piece)))
-            }
-            Err(PlanFault::RepeatedPiece(piece)) => {
-                Err(ToolError::BadTree(TreeFault::RepeatedPiece(piece)))
-            }
-            Err(PlanFault::MissingPiece(piece)) => {
-                Err(ToolError::BadTree(TreeFault::MissingPiece(piece)))
-            }
-            Err(PlanFault::Memory) => Err(ToolError::Memory),
-        },
+        Tree::Text(text) => Plan::parse(alloc, text, pieces),
     }
 }
 

@@ -106,7 +106,9 @@ pub fn printed_text(
     text_of(writer)
 }
 
-/// Writes the rows of a report as the options want them, as [`put`] writes [`printed_text`].
+/// Writes the rows of a report as the options want them, as [`put`] writes [`printed_text`]. The
+/// error is `Memory`, before anything is written, or `WriteFault` with the number of bytes that the
+/// sink took.
 pub fn write_printed<S: Sink>(
     alloc: Global,
     sink: &mut S,

@@ -146,7 +146,8 @@ pub fn condensed_rows_text(
     with_rows(alloc, first_row(alloc, first, decimals)?, rest, decimals)
 }
 
-/// Writes the rows of a report, as [`put`] writes [`report_text`].
+/// Writes the rows of a report, as [`put`] writes [`report_text`]. The error is `Memory`, before
+/// anything is written, or `WriteFault` with the number of bytes that the sink took.
 pub fn write_report<S: Sink>(alloc: Global, sink: &mut S, rows: &[Heavy]) -> Result<(), ToolError>
     requires { S.has_failed sink.old ≡ false }
     ensures all { OnOk result (Appends (S.taken sink.old) (S.taken sink.new) (rows_of rows.now)) }

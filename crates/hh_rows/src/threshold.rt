@@ -3,6 +3,7 @@
 ghost use Rattle.std.specs.Prelude.{◌≡◌, ◌<◌, true, length, IfSome};
 ghost use Rattle.std.specs.List.{position_from};
 ghost use Rattle.hh_summaries.specs.Counters.{max_k};
+ghost use Rattle.hh_summaries.specs.Report.{IsShare};
 ghost use Rattle.hh_stream.specs.Ranges.{in_range};
 ghost use Rattle.hh_rows.specs.Thresholds.{is_slash, number_of, numbers_of, threshold_of};
 
@@ -49,7 +50,8 @@ fn numbers_of(text: &[u8]) -> Option<(u64, u64)>
 /// `P/Q`, or whose P/Q is above the whole or below 1/(k + 1), or whose Q is too large.
 pub fn threshold_of(k: u64, share: &Share) -> Option<(u64, u64)>
     requires { in_range k max_k ≡ true }
-    ensures { result ≡ threshold_of k share.now }
+    ensures threshold { result ≡ threshold_of k share.now }
+    ensures is_share { IfSome result (λ t. IsShare t.0 t.1) }
 {
     match share {
         Share::OfCounters => Some((1, k + 1)),

@@ -1,15 +1,15 @@
 //! Cuttings of a stream into consecutive pieces.
 
-ghost use Rattle.std.specs.Prelude.{◌≡◌, ◌≢◌, ◌<◌, ◌≤◌, ◌^◌, ◌↔◌, [], true, false, length, sum, slice_index_or, IsTrue, OnOk, OnErr, IfOk, IsErrOf};
-ghost use Rattle.hh_stream.specs.declared.cutting.CuttingFault.TheVariants.{Memory};
+ghost use Rattle.std.specs.Prelude.{◌≡◌, ◌≢◌, ◌<◌, ◌≤◌, ◌^◌, ◌↔◌, [], true, false, length, sum, slice_index_or, IsTrue, OnOk, OnErr, IfOk, IfErr, IsErrOf};
+ghost use Rattle.hh_stream.specs.Faults.{IsPiecesFault, IsLengthsFault};
 ghost use Rattle.hh_stream.specs.Weights.{AreItems, max_total, total_of};
 ghost use Rattle.hh_stream.specs.Cuttings.{max_pieces, even_lengths, pieces_of, whole_of};
 ghost use Rattle.hh_stream.specs.Ranges.{in_range};
 
+use crate::fault::StreamFault;
 use crate::stream::{Item, Stream};
 use std::alloc::{AllocError, Global};
 use std::marker::Model;
-use thiserror::Error;
 
 /// The most pieces of a cutting.
 pub const MAX_PIECES: usize = 1024;
@@ -34,44 +34,19 @@ impl Model for Cutting {
         × (cutting.len ≡ sum cutting.lengths.items) };
 }
 
-/// Why there is no such cutting: the first of these that holds.
-#[derive(Clone, Copy, Debug, PartialEq, Eq, Error)]
-pub enum CuttingFault {
-    /// There is no piece.
-    #[error("a cutting has at least 1 piece")]
-    NoPieces,
-    /// There are more than [`MAX_PIECES`] pieces.
-    #[error("a cutting has at most 1024 pieces")]
-    TooManyPieces,
-    /// The lengths don't add up to the number of items.
-    #[error("the lengths do not add up to the number of items")]
-    WrongSum,
-    /// The allocator had no memory.
-    #[error("out of memory")]
-    Memory,
-}
-
-impl From<AllocError> for CuttingFault {
-    ghost from_gives = { λ _ e. e ≡ Memory };
-
-    fn from(_e: AllocError) -> CuttingFault {
-        CuttingFault::Memory
-    }
-}
-
 /// Refuses a number of pieces that is 0 or too large.
-fn check_count(pieces: usize) -> Result<(), CuttingFault>
-    ensures no_pieces { IsErrOf result CuttingFault.NoPieces ↔ (pieces ≡ 0) }
-    ensures too_many { IsErrOf result CuttingFault.TooManyPieces ↔ (max_pieces < pieces) }
-    ensures right_sum { ¬ IsErrOf result CuttingFault.WrongSum }
+fn check_count(pieces: usize) -> Result<(), StreamFault>
+    ensures no_pieces { IsErrOf result StreamFault.NoPieces ↔ (pieces ≡ 0) }
+    ensures too_many { IsErrOf result StreamFault.TooManyPieces ↔ (max_pieces < pieces) }
+    ensures faults { IfErr result IsPiecesFault }
     ensures within { OnOk result (in_range pieces max_pieces ≡ true) }
     ensures outside { OnErr result (in_range pieces max_pieces ≡ false) }
 {
     if pieces == 0 {
-        return Err(CuttingFault::NoPieces);
+        return Err(StreamFault::NoPieces);
     }
     if pieces > MAX_PIECES {
-        return Err(CuttingFault::TooManyPieces);
+        return Err(StreamFault::TooManyPieces);
     }
     Ok(())
 }
@@ -112,14 +87,15 @@ fn sum_of(lengths: &[usize]) -> usize
 
 impl Cutting {
     /// Cuts `len` items into `pieces` pieces: each has `len / pieces` items, and one more where its
-    /// number is below `len % pieces`.
-    pub fn even(alloc: Global, len: usize, pieces: usize) -> Result<Cutting, CuttingFault>
+    /// number is below `len % pieces`. The error is the first of `NoPieces`, `TooManyPieces` and
+    /// `Memory` that holds.
+    pub fn even(alloc: Global, len: usize, pieces: usize) -> Result<Cutting, StreamFault>
         ensures even { IfOk result (λ cutting. cutting ≡ even_lengths len pieces) }
         ensures adds_up { IfOk result (λ cutting. sum cutting ≡ len) }
         ensures pieces { IfOk result (λ cutting. length cutting ≡ pieces) }
-        ensures no_pieces { IsErrOf result CuttingFault.NoPieces ↔ (pieces ≡ 0) }
-        ensures too_many { IsErrOf result CuttingFault.TooManyPieces ↔ (max_pieces < pieces) }
-        ensures right_sum { ¬ IsErrOf result CuttingFault.WrongSum }
+        ensures no_pieces { IsErrOf result StreamFault.NoPieces ↔ (pieces ≡ 0) }
+        ensures too_many { IsErrOf result StreamFault.TooManyPieces ↔ (max_pieces < pieces) }
+        ensures faults { IfErr result IsPiecesFault }
     {
         check_count(pieces)?;
         Ok(Cutting::of_pieces(alloc, len, pieces)?)
@@ -136,19 +112,21 @@ impl Cutting {
         Ok(Cutting { lengths, len })
     }
 
-    /// `len` items in pieces of these lengths.
-    pub fn by_lengths(alloc: Global, len: usize, lengths: &[usize]) -> Result<Cutting, CuttingFault>
+    /// `len` items in pieces of these lengths. The error is the first of `NoPieces`,
+    /// `TooManyPieces`, `WrongSum` and `Memory` that holds.
+    pub fn by_lengths(alloc: Global, len: usize, lengths: &[usize]) -> Result<Cutting, StreamFault>
         ensures lengths { IfOk result (λ cutting. cutting ≡ lengths.now) }
         ensures adds_up { IfOk result (λ cutting. sum cutting ≡ len) }
-        ensures no_pieces { IsErrOf result CuttingFault.NoPieces ↔ (length lengths.now ≡ 0) }
-        ensures too_many { IsErrOf result CuttingFault.TooManyPieces
+        ensures no_pieces { IsErrOf result StreamFault.NoPieces ↔ (length lengths.now ≡ 0) }
+        ensures too_many { IsErrOf result StreamFault.TooManyPieces
             ↔ (max_pieces < length lengths.now) }
-        ensures wrong_sum { IsErrOf result CuttingFault.WrongSum
+        ensures wrong_sum { IsErrOf result StreamFault.WrongSum
             ↔ ((in_range (length lengths.now) max_pieces ≡ true) × (sum lengths.now ≢ len)) }
+        ensures faults { IfErr result IsLengthsFault }
     {
         check_count(lengths.len())?;
         if !adds_up(lengths, len) {
-            return Err(CuttingFault::WrongSum);
+            return Err(StreamFault::WrongSum);
         }
         let lengths = lengths.to_vec(alloc)?;
         Ok(Cutting { lengths, len })

@@ -1,19 +1,20 @@
 //! Keys: 1 to 4,096 bytes.
 
-ghost use Rattle.std.specs.Prelude.{◌≡◌, ◌<◌, ◌≤◌, ◌↔◌, ◌∷◌, [], length, IsOk, IfOk, IsErrOf, refl};
+ghost use Rattle.std.specs.Prelude.{◌≡◌, ◌<◌, ◌≤◌, ◌↔◌, ◌∷◌, [], length, IsOk, IfOk, IfErr, IsErrOf, refl};
 ghost use Rattle.std.proofs.Common.{ap};
 ghost use Rattle.std.specs.FinMap.{nat_cmp-IsAntisymmetric, slice_cmp-IsAntisymmetric};
 ghost use Rattle.std.specs.Cmp.{partial_equiv_from_equiv, partial_order_from_total, eq_by_cmp_equiv, Equal-is};
 ghost use Rattle.std.specs.Cmp.Lexicographic.{slice_cmp, nat_list_cmp_total};
 ghost use Rattle.std.specs.Ordering.{nat_cmp, as_partial_cmp};
+ghost use Rattle.hh_stream.specs.Faults.{IsKeyFault};
 ghost use Rattle.hh_stream.specs.Storage.{IsStorage, stored_bytes};
 ghost use Rattle.hh_stream.specs.Weights.{max_key_len, inline_len, IsKey, key_cmp, same_key};
 
+use crate::fault::StreamFault;
 use std::alloc::{AllocError, Global};
 use std::cmp::Ordering;
 use std::hash::{Hash, Hasher};
 use std::marker::Model;
-use thiserror::Error;
 
 /// The most bytes that a key has.
 pub const MAX_KEY_LEN: usize = 4096;
@@ -49,6 +50,7 @@ struct Short {
 }
 
 impl Model for Key {
+    ghost use Rattle.hh_stream.specs.Faults.{IsKeyFault};
     ghost use Rattle.hh_stream.specs.Storage.{IsStorage, stored_bytes};
     ghost use Rattle.hh_stream.specs.Weights.{Bytes, IsKey};
 
@@ -59,37 +61,25 @@ impl Model for Key {
     ghost invariant = { λ key. IsStorage key.storage × IsKey (stored_bytes key.storage) };
 }
 
-/// Why bytes are no key: the first of these that holds.
-#[derive(Clone, Copy, Debug, PartialEq, Eq, Error)]
-pub enum KeyFault {
-    /// There are none.
-    #[error("a key has at least 1 byte")]
-    Empty,
-    /// There are more than [`MAX_KEY_LEN`].
-    #[error("a key has at most 4096 bytes")]
-    TooLong,
-    /// The allocator had no memory.
-    #[error("out of memory")]
-    Memory,
-}
-
 impl Key {
-    /// The key with these bytes, which are copied.
-    pub fn new(alloc: Global, bytes: &[u8]) -> Result<Key, KeyFault>
+    /// The key with these bytes, which are copied. The error is the first of `Empty`, `TooLong` and
+    /// `Memory` that holds.
+    pub fn new(alloc: Global, bytes: &[u8]) -> Result<Key, StreamFault>
         ensures key { IfOk result (λ key. key ≡ bytes.now) }
-        ensures empty { IsErrOf result KeyFault.Empty ↔ (length bytes.now ≡ 0) }
-        ensures too_long { IsErrOf result KeyFault.TooLong ↔ (max_key_len < length bytes.now) }
+        ensures empty { IsErrOf result StreamFault.Empty ↔ (length bytes.now ≡ 0) }
+        ensures too_long { IsErrOf result StreamFault.TooLong ↔ (max_key_len < length bytes.now) }
+        ensures faults { IfErr result IsKeyFault }
 
         // a short key takes no memory
         ensures short { 0 < length bytes.now → length bytes.now ≤ inline_len → IsOk result }
     {
         if bytes.is_empty() {
-            return Err(KeyFault::Empty);
+            return Err(StreamFault::Empty);
         }
         if bytes.len() > MAX_KEY_LEN {
-            return Err(KeyFault::TooLong);
+            return Err(StreamFault::TooLong);
         }
-        Key::of_bytes(alloc, bytes).map_err(|_| KeyFault::Memory)
+        Ok(Key::of_bytes(alloc, bytes)?)
     }
 
     /// [`new`](Key::new) of 1 to [`MAX_KEY_LEN`] bytes, where only memory can be refused.

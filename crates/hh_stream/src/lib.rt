@@ -3,6 +3,7 @@
 
 mod borrowed_key;
 mod cutting;
+mod fault;
 mod key;
 mod key_hash;
 pub mod laws;
@@ -11,9 +12,10 @@ mod stream;
 mod taking;
 
 pub use borrowed_key::BorrowedKey;
-pub use cutting::{Cutting, CuttingFault, MAX_PIECES};
-pub use key::{INLINE_LEN, Key, KeyFault, MAX_KEY_LEN};
+pub use cutting::{Cutting, MAX_PIECES};
+pub use fault::StreamFault;
+pub use key::{INLINE_LEN, Key, MAX_KEY_LEN};
 pub use key_hash::{KeyHash, KeyHasher};
 pub use ranges::in_range;
-pub use stream::{Item, MAX_TOTAL, PushFault, PushRefused, Stream};
+pub use stream::{Item, MAX_TOTAL, PushRefused, Stream};
 pub use taking::{PieceFault, TakeItems};

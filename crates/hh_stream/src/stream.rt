@@ -1,12 +1,13 @@
 //! Weighted items, and the streams that hold them in order.
 
 ghost use Rattle.std.specs.Prelude.{◌≡◌, ◌+◌, ◌<◌, ◌≤◌, ◌↔◌, ◌++◌, ◌∷◌, [], length, ◌==◌, OnOk, OnErr, IfErr, IsErrAnd};
+ghost use Rattle.hh_stream.specs.Faults.{IsPushFault};
 ghost use Rattle.hh_stream.specs.Weights.{AreItems, max_total, total_of};
 
+use crate::fault::StreamFault;
 use crate::key::Key;
 use std::alloc::Global;
 use std::marker::Model;
-use thiserror::Error;
 
 /// The largest total weight of a stream: 2^63 - 1.
 pub const MAX_TOTAL: u64 = 9_223_372_036_854_775_807;
@@ -56,6 +57,7 @@ pub struct Stream {
 
 impl Model for Stream {
     ghost use Rattle.std.specs.Prelude.{List, ◌≡◌, ◌≤◌};
+    ghost use Rattle.hh_stream.specs.Faults.{IsPushFault};
     ghost use Rattle.hh_stream.specs.Weights.{AreItems, Entry, max_total, total_of};
 
     ghost Value = { List Entry };
@@ -66,25 +68,11 @@ impl Model for Stream {
         × (stream.total ≤ max_total) × AreItems stream.items.items };
 }
 
-/// Why an item was not pushed: the first of these that holds.
-#[derive(Clone, Copy, Debug, PartialEq, Eq, Error)]
-pub enum PushFault {
-    /// The weight is 0.
-    #[error("a weight is at least 1")]
-    ZeroWeight,
-    /// The total would be above [`MAX_TOTAL`].
-    #[error("the total would be above 2^63 - 1")]
-    TotalTooLarge,
-    /// The allocator had no memory.
-    #[error("out of memory")]
-    Memory,
-}
-
 /// A push that was refused, with the key handed back.
 #[derive(Debug, Drop)]
 pub struct PushRefused {
     pub key: Key,
-    pub fault: PushFault,
+    pub fault: StreamFault,
 }
 
 impl Stream {
@@ -98,32 +86,34 @@ impl Stream {
         }
     }
 
-    /// Puts an item last. After a refusal the stream is as it was.
+    /// Puts an item last. The fault is the first of `ZeroWeight`, `TotalTooLarge` and `Memory` that
+    /// holds; the stream is then as it was.
     pub fn push(&mut self, key: Key, weight: u64) -> Result<(), PushRefused>
         ensures pushed { OnOk result (self.new ≡ self.old ++ (key, weight) ∷ []) }
         ensures unchanged { OnErr result (self.new ≡ self.old) }
         ensures handed_back { IfErr result (λ refused. refused.key ≡ key) }
 
-        ensures zero_weight { IsErrAnd result (λ refused. refused.fault ≡ PushFault.ZeroWeight)
+        ensures zero_weight { IsErrAnd result (λ refused. refused.fault ≡ StreamFault.ZeroWeight)
             ↔ (weight ≡ 0) }
-        ensures too_large { IsErrAnd result (λ refused. refused.fault ≡ PushFault.TotalTooLarge)
+        ensures too_large { IsErrAnd result (λ refused. refused.fault ≡ StreamFault.TotalTooLarge)
             ↔ ((0 < weight) × (max_total < total_of self.old + weight)) }
+        ensures faults { IfErr result (λ refused. IsPushFault refused.fault) }
     {
         if weight == 0 {
             return Err(PushRefused {
                 key,
-                fault: PushFault::ZeroWeight,
+                fault: StreamFault::ZeroWeight,
             });
         }
         if weight > MAX_TOTAL - self.total {
             return Err(PushRefused {
                 key,
-                fault: PushFault::TotalTooLarge,
+                fault: StreamFault::TotalTooLarge,
             });
         }
         self.push_within(key, weight).map_err(|key| PushRefused {
             key,
-            fault: PushFault::Memory,
+            fault: StreamFault::Memory,
         })
     }
 

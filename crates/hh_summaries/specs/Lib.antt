@@ -1,2 +1,3 @@
 pub mod Counters
+pub mod Faults
 pub mod Report

@@ -3,8 +3,10 @@
 #![tactic(auto)]
 
 mod entries;
+mod fault;
 mod summary;
 mod taking;
 
 pub use entries::{add_entry, counter_of, cut, least_counter, level_of, lower_all, push_copy};
-pub use summary::{AddFault, BadK, MAX_K, MergeFault, NewFault, Summary};
+pub use fault::SummaryFault;
+pub use summary::{MAX_K, Summary};

@@ -1,16 +1,17 @@
 //! Misra-Gries summaries.
 
-ghost use Rattle.std.specs.Prelude.{◌≡◌, ◌+◌, ◌<◌, ◌≤◌, ◌^◌, ◌↔◌, [], ◌≢◌, ◌==◌, IsTrue, IsOk, IsErr, IsErrOf, IfOk, OnOk, OnErr, length, slice_index_or, false, true};
+ghost use Rattle.std.specs.Prelude.{◌≡◌, ◌+◌, ◌<◌, ◌≤◌, ◌^◌, ◌↔◌, [], ◌≢◌, ◌==◌, IsTrue, IsOk, IsErr, IsErrOf, IfOk, IfErr, OnOk, OnErr, length, slice_index_or, false, true};
 ghost use Rattle.hh_stream.specs.Weights.{max_total, weight_of, total_of, max_key_len};
 ghost use Rattle.hh_stream.specs.Ranges.{in_range};
 ghost use Rattle.hh_summaries.specs.Counters.{max_k, Fits, IsCounters, SummaryView, least_counter, sketch_with, merge_of, sketch_of, slack};
+ghost use Rattle.hh_summaries.specs.Faults.{IsNewFault, IsAddFault, IsMergeFault};
 ghost use Rattle.hh_summaries.specs.Report.{by_rank};
 
 use crate::entries::{add_item, are_counters, counter_of, join, ranked, sum_of, sums_within};
+use crate::fault::SummaryFault;
 use hh_stream::{Item, Key, MAX_TOTAL, in_range};
 use std::alloc::{AllocError, Global};
 use std::marker::Model;
-use thiserror::Error;
 
 /// The largest k.
 pub const MAX_K: u64 = 65_535;
@@ -40,55 +41,15 @@ impl Model for Summary {
     ghost invariant = { λ s. Fits s.k s.total s.entries.items };
 }
 
-/// k is not 1 to [`MAX_K`].
-#[derive(Clone, Copy, Debug, PartialEq, Eq, Error)]
-#[error("k must be 1 to 65535")]
-pub struct BadK;
-
-/// Why an item was not added: the first of these that holds.
-#[derive(Clone, Copy, Debug, PartialEq, Eq, Error)]
-pub enum AddFault {
-    /// The total would be above [`MAX_TOTAL`].
-    #[error("the total would be above 2^63 - 1")]
-    TotalTooLarge,
-    /// The allocator had no memory.
-    #[error("out of memory")]
-    Memory,
-}
-
-/// Why a summary was not merged: the first of these that holds.
-#[derive(Clone, Copy, Debug, PartialEq, Eq, Error)]
-pub enum MergeFault {
-    /// The two summaries have different k.
-    #[error("the summaries have different k")]
-    DifferentK,
-    /// The total would be above [`MAX_TOTAL`].
-    #[error("the total would be above 2^63 - 1")]
-    TotalTooLarge,
-    /// The allocator had no memory.
-    #[error("out of memory")]
-    Memory,
-}
-
-/// Why there is no new summary: the first of these that holds.
-#[derive(Clone, Copy, Debug, PartialEq, Eq, Error)]
-pub enum NewFault {
-    /// k is not 1 to [`MAX_K`].
-    #[error("k must be 1 to 65535")]
-    BadK,
-    /// The allocator had no memory.
-    #[error("out of memory")]
-    Memory,
-}
-
 impl Summary {
-    /// The summary of no items. It takes no memory.
-    pub fn new(alloc: Global, k: u64) -> Result<Summary, BadK>
+    /// The summary of no items. It takes no memory, and the one error is `BadK`.
+    pub fn new(alloc: Global, k: u64) -> Result<Summary, SummaryFault>
         ensures empty { IfOk result (λ s. s ≡ record { k = k; total = 0; counters = [] }) }
         ensures bad_k { IsErr result ↔ (in_range k max_k ≡ false) }
+        ensures fault { IfErr result (λ fault. fault ≡ SummaryFault.BadK) }
     {
         if !in_range(k, MAX_K) {
-            return Err(BadK);
+            return Err(SummaryFault::BadK);
         }
         Ok(Summary::empty(alloc, k))
     }
@@ -105,21 +66,23 @@ impl Summary {
         }
     }
 
-    /// The summary of the items, added one by one.
-    pub fn of_items(alloc: Global, k: u64, items: &[Item]) -> Result<Summary, NewFault>
+    /// The summary of the items, added one by one. The error is the first of `BadK` and `Memory`
+    /// that holds.
+    pub fn of_items(alloc: Global, k: u64, items: &[Item]) -> Result<Summary, SummaryFault>
         requires { total_of items.now ≤ max_total }
         ensures misra_gries { IfOk result (λ s. s ≡ sketch_of k items.now) }
-        ensures bad_k { IsErrOf result NewFault.BadK ↔ (in_range k max_k ≡ false) }
+        ensures bad_k { IsErrOf result SummaryFault.BadK ↔ (in_range k max_k ≡ false) }
+        ensures faults { IfErr result IsNewFault }
 
         // no items take no memory
         ensures nothing { items.now ≡ [] → in_range k max_k ≡ true → IsOk result }
     {
         let Ok(mut summary) = Summary::new(alloc, k) else {
-            return Err(NewFault::BadK);
+            return Err(SummaryFault::BadK);
         };
         for item in items {
             let Ok(()) = summary.add_within(item.key().bytes(), item.weight()) else {
-                return Err(NewFault::Memory);
+                return Err(SummaryFault::Memory);
             };
         }
         Ok(summary)
@@ -225,18 +188,20 @@ impl Summary {
     }
 
     /// Adds an item: its key's counter grows by the weight, and where k + 1 keys then have
-    /// counters, the least of them is taken from each, and only what stays above 0 is kept. After a
-    /// refusal the summary is as it was.
+    /// counters, the least of them is taken from each, and only what stays above 0 is kept. The
+    /// error is the first of `TotalTooLarge` and `Memory` that holds; the summary is then as it
+    /// was.
     ///
     /// A key that has a counter costs a search among the keys. One that has none costs a walk over
     /// all counters, so that n such items cost n times k. For many items take a `BucketSaving` of
     /// `hh_counters`, whose cost for each grows as the logarithm of k, and translate it at the end.
-    pub fn add(&mut self, key: &Key, weight: u64) -> Result<(), AddFault>
+    pub fn add(&mut self, key: &Key, weight: u64) -> Result<(), SummaryFault>
         requires { 0 < weight }
         ensures added { OnOk result (self.new ≡ sketch_with self.old (key.now, weight)) }
         ensures unchanged { OnErr result (self.new ≡ self.old) }
-        ensures too_large { IsErrOf result AddFault.TotalTooLarge
+        ensures too_large { IsErrOf result SummaryFault.TotalTooLarge
             ↔ (max_total < self.old.total + weight) }
+        ensures faults { IfErr result IsAddFault }
 
         // nothing grows where the key has a counter, or k do and none is below the weight
         ensures known { 0 < weight_of key.now self.old.counters
@@ -249,13 +214,14 @@ impl Summary {
     }
 
     /// [`add`](Summary::add) of the key with these bytes, 1 to 4,096 of them.
-    pub fn add_bytes(&mut self, key: &[u8], weight: u64) -> Result<(), AddFault>
+    pub fn add_bytes(&mut self, key: &[u8], weight: u64) -> Result<(), SummaryFault>
         requires key { (0 < length key.now) × (length key.now ≤ max_key_len) }
         requires positive { 0 < weight }
         ensures added { OnOk result (self.new ≡ sketch_with self.old (key.now, weight)) }
         ensures unchanged { OnErr result (self.new ≡ self.old) }
-        ensures too_large { IsErrOf result AddFault.TotalTooLarge
+        ensures too_large { IsErrOf result SummaryFault.TotalTooLarge
             ↔ (max_total < self.old.total + weight) }
+        ensures faults { IfErr result IsAddFault }
 
         // nothing grows where the key has a counter, or k do and none is below the weight
         ensures known { 0 < weight_of key.now self.old.counters
@@ -265,9 +231,9 @@ impl Summary {
             → self.old.total + weight ≤ max_total → IsOk result }
     {
         if weight > MAX_TOTAL - self.total {
-            return Err(AddFault::TotalTooLarge);
+            return Err(SummaryFault::TotalTooLarge);
         }
-        self.add_within(key, weight).map_err(|_| AddFault::Memory)
+        Ok(self.add_within(key, weight)?)
     }
 
     /// [`add_bytes`](Summary::add_bytes) where the total stays at most [`MAX_TOTAL`], so that only
@@ -291,13 +257,15 @@ impl Summary {
 
     /// Merges another summary with the same k: counters are added key by key, and where more than k
     /// keys then have counters, the (k + 1)-th largest is taken from each, and only what stays
-    /// above 0 is kept. After a refusal the summary is as it was.
-    pub fn merge(&mut self, other: &Summary) -> Result<(), MergeFault>
+    /// above 0 is kept. The error is the first of `DifferentK`, `TotalTooLarge` and `Memory` that
+    /// holds; the summary is then as it was.
+    pub fn merge(&mut self, other: &Summary) -> Result<(), SummaryFault>
         ensures merged { OnOk result (self.new ≡ merge_of self.old other.now) }
         ensures unchanged { OnErr result (self.new ≡ self.old) }
-        ensures different_k { IsErrOf result MergeFault.DifferentK ↔ (self.old.k ≢ other.now.k) }
-        ensures too_large { IsErrOf result MergeFault.TotalTooLarge
+        ensures different_k { IsErrOf result SummaryFault.DifferentK ↔ (self.old.k ≢ other.now.k) }
+        ensures too_large { IsErrOf result SummaryFault.TotalTooLarge
             ↔ ((self.old.k ≡ other.now.k) × (max_total < self.old.total + other.now.total)) }
+        ensures faults { IfErr result IsMergeFault }
 
         // no counters take no memory
         ensures none { self.old.counters ≡ [] → other.now.counters ≡ []
@@ -305,10 +273,10 @@ impl Summary {
             → IsOk result }
     {
         if self.k != other.k {
-            return Err(MergeFault::DifferentK);
+            return Err(SummaryFault::DifferentK);
         }
         if other.total > MAX_TOTAL - self.total {
-            return Err(MergeFault::TotalTooLarge);
+            return Err(SummaryFault::TotalTooLarge);
         }
         match join(
             *self.entries.allocator(),
@@ -321,7 +289,7 @@ impl Summary {
                 self.entries = all;
                 Ok(())
             }
-            Err(_) => Err(MergeFault::Memory),
+            Err(_) => Err(SummaryFault::Memory),
         }
     }
 }

@@ -3,7 +3,7 @@
 use crate::fixtures::{
     FOUR_RECORDS, KS, assert_same, assert_shows, key_of, show_counter, shown, stream_of,
 };
-use hh_counters::{BadK, BucketSaving, Monitor, NewFault, SpaceSaving, Summary, monitored_summary};
+use hh_counters::{BucketSaving, Monitor, SpaceSaving, Summary, SummaryFault, monitored_summary};
 use hh_stream::{Item, Key, Stream};
 use std::fmt::Debug;
 use std::process::Abort;
@@ -103,9 +103,9 @@ fn each_form_counts_small_streams(rt: HostRuntime) {
 fn k_is_1_to_65535(rt: HostRuntime) {
     for (k, refused) in &KS {
         let plain = SpaceSaving::new(rt.alloc(), *k).err();
-        assert_same(&rt, plain, refused.then_some(BadK));
+        assert_same(&rt, plain, refused.then_some(SummaryFault::BadK));
         let buckets = BucketSaving::new(rt.alloc(), *k).err();
-        assert_same(&rt, buckets, refused.then_some(NewFault::BadK));
+        assert_same(&rt, buckets, refused.then_some(SummaryFault::BadK));
     }
 }
 

@@ -1,7 +1,7 @@
 //! The worked rows on keys, items, streams and cuttings.
 
 use crate::fixtures::{assert_same, key_of};
-use hh_stream::{Cutting, CuttingFault, Item, Key, KeyFault, PushFault, PushRefused, Stream};
+use hh_stream::{Cutting, Item, Key, PushRefused, Stream, StreamFault};
 use std::hash::{BuildHasher, BuildHasherDefault, FoldHasher};
 use std::process::Abort;
 
@@ -34,8 +34,12 @@ fn keys_have_1_to_4096_bytes(rt: HostRuntime) {
 fn keys_of_other_lengths_are_refused(rt: HostRuntime) {
     let alloc = rt.alloc();
     let long = bytes_of(&rt, 4097);
-    assert_same(&rt, Key::new(alloc, b"").err(), Some(KeyFault::Empty));
-    assert_same(&rt, Key::new(alloc, &long).err(), Some(KeyFault::TooLong));
+    assert_same(&rt, Key::new(alloc, b"").err(), Some(StreamFault::Empty));
+    assert_same(
+        &rt,
+        Key::new(alloc, &long).err(),
+        Some(StreamFault::TooLong),
+    );
 }
 
 // Whether the first key is less than the second, and another.
@@ -67,7 +71,7 @@ fn same_keys_have_the_same_hash(rt: HostRuntime) {
 // Asserts that the weight of a key a was 0, and that the key comes back.
 fn assert_back(rt: &impl Abort, pushed: Result<(), PushRefused>) {
     let refused = pushed.expect_err(rt, "a weight of 0 was taken");
-    assert_same(rt, refused.fault, PushFault::ZeroWeight);
+    assert_same(rt, refused.fault, StreamFault::ZeroWeight);
     assert_same(rt, refused.key.bytes(), b"a".as_slice());
 }
 
@@ -127,9 +131,9 @@ fn even_pieces(rt: HostRuntime) {
 #[test]
 fn even_pieces_are_1_to_1024(rt: HostRuntime) {
     let none = Cutting::even(rt.alloc(), 4, 0).err();
-    assert_same(&rt, none, Some(CuttingFault::NoPieces));
+    assert_same(&rt, none, Some(StreamFault::NoPieces));
     let many = Cutting::even(rt.alloc(), 4, 1025).err();
-    assert_same(&rt, many, Some(CuttingFault::TooManyPieces));
+    assert_same(&rt, many, Some(StreamFault::TooManyPieces));
 }
 
 // The pieces of a cutting with these lengths.
@@ -149,12 +153,12 @@ fn pieces_by_lengths(rt: HostRuntime) {
 }
 
 // The number of items, lengths, and why these are none of a cutting.
-const OTHER_LENGTHS: [(usize, &[usize], CuttingFault); 5] = [
-    (4, &[], CuttingFault::NoPieces),
-    (4, &[3, 2], CuttingFault::WrongSum),
-    (4, &[3], CuttingFault::WrongSum),
-    (4, &[usize::MAX, 5], CuttingFault::WrongSum),
-    (0, &[0; 1025], CuttingFault::TooManyPieces),
+const OTHER_LENGTHS: [(usize, &[usize], StreamFault); 5] = [
+    (4, &[], StreamFault::NoPieces),
+    (4, &[3, 2], StreamFault::WrongSum),
+    (4, &[3], StreamFault::WrongSum),
+    (4, &[usize::MAX, 5], StreamFault::WrongSum),
+    (0, &[0; 1025], StreamFault::TooManyPieces),
 ];
 
 #[test]

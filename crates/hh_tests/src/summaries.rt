@@ -5,7 +5,7 @@ ghost use Rattle.std.specs.Prelude.{◌<◌};
 use crate::fixtures::{
     FOUR_RECORDS, KS, assert_same, assert_shows, key_of, shown, stream_of, summary_of,
 };
-use hh_counters::{AddFault, MergeFault, Summary};
+use hh_counters::{Summary, SummaryFault};
 use hh_stream::{Item, Key, MAX_TOTAL};
 use std::process::Abort;
 
@@ -55,7 +55,7 @@ fn k_is_1_to_65535(rt: HostRuntime) {
 }
 
 // What comes of one more item a with this weight after the four records.
-fn raised(rt: &(impl Abort + AllocGlobal), weight: u64) -> (Option<AddFault>, String)
+fn raised(rt: &(impl Abort + AllocGlobal), weight: u64) -> (Option<SummaryFault>, String)
     requires { 0 < weight }
 {
     let mut summary = summary_of(rt, 2, &FOUR_RECORDS);
@@ -66,7 +66,7 @@ fn raised(rt: &(impl Abort + AllocGlobal), weight: u64) -> (Option<AddFault>, St
 #[test]
 fn total_has_a_largest_value(rt: HostRuntime) {
     let (fault, text) = raised(&rt, MAX_TOTAL - 10);
-    assert_same(&rt, fault, Some(AddFault::TotalTooLarge));
+    assert_same(&rt, fault, Some(SummaryFault::TotalTooLarge));
     assert_same(&rt, text.as_str(), "a 4 b 1 of 11, slack 2");
     let (fault, text) = raised(&rt, MAX_TOTAL - 11);
     assert_same(&rt, fault, None);
@@ -79,7 +79,7 @@ fn summaries_with_different_k_do_not_merge(rt: HostRuntime) {
     let mut summary = summary_of(&rt, 2, &FOUR_RECORDS);
     let wider = summary_of(&rt, 3, &[(b'b', 2), (b'c', 3)]);
     let fault = summary.merge(&wider).err();
-    assert_same(&rt, fault, Some(MergeFault::DifferentK));
+    assert_same(&rt, fault, Some(SummaryFault::DifferentK));
     assert_shows(&rt, &summary, "a 4 b 1 of 11, slack 2");
     assert_shows(&rt, &wider, "b 2 c 3 of 5, slack 0");
 }

@@ -1,9 +1,7 @@
 //! The worked rows on families and tables.
 
 use crate::fixtures::{assert_same, key_of};
-use hh_countmin::{
-    DrawFault, Family, MODULUS, MergeFault, PartsFault, Table, TableFault, TotalTooLarge,
-};
+use hh_countmin::{Family, MODULUS, Table, TableFault};
 use hh_stream::{Key, MAX_TOTAL};
 use std::process::Abort;
 
@@ -88,14 +86,14 @@ fn same_seeds_draw_the_same_family(rt: HostRuntime) {
 }
 
 // The depth of a family that is drawn with this one, or the fault.
-fn depth_of(rt: &impl AllocGlobal, depth: u64) -> Result<u64, DrawFault> {
+fn depth_of(rt: &impl AllocGlobal, depth: u64) -> Result<u64, TableFault> {
     Ok(Family::draw(rt.alloc(), 7, depth)?.depth())
 }
 
-const DEPTHS: [(u64, Result<u64, DrawFault>); 3] = [
-    (0, Err(DrawFault::BadDepth)),
+const DEPTHS: [(u64, Result<u64, TableFault>); 3] = [
+    (0, Err(TableFault::BadDepth)),
     (16, Ok(16)),
-    (17, Err(DrawFault::BadDepth)),
+    (17, Err(TableFault::BadDepth)),
 ];
 
 #[test]
@@ -117,14 +115,14 @@ fn families_are_copied(rt: HostRuntime) {
 }
 
 // Factors and rows of no family, and why.
-const NO_PARTS: [(u64, &[(u64, u64)], PartsFault); 7] = [
-    (256, &[], PartsFault::BadDepth),
-    (256, &[(1, 0); 17], PartsFault::BadDepth),
-    (256, &[(1, MODULUS)], PartsFault::BadCoefficient),
-    (256, &[(0, 0)], PartsFault::BadCoefficient),
-    (256, &[(MODULUS, 0)], PartsFault::BadCoefficient),
-    (0, &[(1, 0)], PartsFault::BadCoefficient),
-    (MODULUS, &[(1, 0)], PartsFault::BadCoefficient),
+const NO_PARTS: [(u64, &[(u64, u64)], TableFault); 7] = [
+    (256, &[], TableFault::BadDepth),
+    (256, &[(1, 0); 17], TableFault::BadDepth),
+    (256, &[(1, MODULUS)], TableFault::BadCoefficient),
+    (256, &[(0, 0)], TableFault::BadCoefficient),
+    (256, &[(MODULUS, 0)], TableFault::BadCoefficient),
+    (0, &[(1, 0)], TableFault::BadCoefficient),
+    (MODULUS, &[(1, 0)], TableFault::BadCoefficient),
 ];
 
 #[test]
@@ -200,7 +198,7 @@ fn merged_cells_hold_the_weights_of_all(rt: HostRuntime) {
 }
 
 // Asserts why this table isn't merged into that of one item, whose total stays.
-fn assert_unlike(rt: &(impl Abort + AllocGlobal), other: Table, fault: MergeFault) {
+fn assert_unlike(rt: &(impl Abort + AllocGlobal), other: Table, fault: TableFault) {
     let mut table = table_of(rt, &[(b"a", 5)]);
     assert_same(rt, table.merge(&other).err(), Some(fault));
     assert_same(rt, table.total(), 5);
@@ -209,9 +207,9 @@ fn assert_unlike(rt: &(impl Abort + AllocGlobal), other: Table, fault: MergeFaul
 #[test]
 fn unlike_tables_are_not_merged(rt: HostRuntime) {
     let other = empty_table(&rt, family_of(&rt, 256, &[(1, 0), (3, 2)]), 4);
-    assert_unlike(&rt, other, MergeFault::DifferentFamily);
+    assert_unlike(&rt, other, TableFault::DifferentFamily);
     let wider = empty_table(&rt, plain_family(&rt), 5);
-    assert_unlike(&rt, wider, MergeFault::DifferentWidth);
+    assert_unlike(&rt, wider, TableFault::DifferentWidth);
 }
 
 // The width of a table of this width, or the fault.
@@ -233,12 +231,12 @@ fn widths_are_1_to_65536(rt: HostRuntime) {
 }
 
 // What comes of one more item.
-fn item_added(rt: &(impl Abort + AllocGlobal), table: &mut Table) -> Result<(), TotalTooLarge> {
+fn item_added(rt: &(impl Abort + AllocGlobal), table: &mut Table) -> Result<(), TableFault> {
     table.add(&key_of(rt, b"y"), 1)
 }
 
 // What comes of the table of one more item.
-fn item_merged(rt: &(impl Abort + AllocGlobal), table: &mut Table) -> Result<(), MergeFault> {
+fn item_merged(rt: &(impl Abort + AllocGlobal), table: &mut Table) -> Result<(), TableFault> {
     table.merge(&table_of(rt, &[(b"y", 1)]))
 }
 
@@ -256,9 +254,13 @@ fn assert_full(rt: &(impl Abort + AllocGlobal), table: &Table) {
 #[test]
 fn totals_stay_in_range(rt: HostRuntime) {
     let mut table = full_table(&rt);
-    assert_same(&rt, item_added(&rt, &mut table), Err(TotalTooLarge));
+    assert_same(
+        &rt,
+        item_added(&rt, &mut table),
+        Err(TableFault::TotalTooLarge),
+    );
     let merged = item_merged(&rt, &mut table);
-    assert_same(&rt, merged, Err(MergeFault::TotalTooLarge));
+    assert_same(&rt, merged, Err(TableFault::TotalTooLarge));
     assert_full(&rt, &table);
 }
 

@@ -1,5 +1,5 @@
 -- What the keys that can exceed a floor tell, once they were counted.
-use Rattle.std.proofs.Common.{◌≡◌, ℕ, suc, ◌+◌, ◌-◌, ◌*◌, ◌/◌, ◌<◌, ◌≤◌, ◌^◌, ⊎_elim, ◌⊎◌, inl, inr, Bool, true, false, cond, List, [], ◌∷◌, length, refl, sym, ap, ◌∙◌, subst, mul-add, mul-le-mul_right, arith, filter, fold, nat_lt, take, zip, Less, Contains}
+use Rattle.std.proofs.Common.{◌≡◌, ℕ, suc, ◌+◌, ◌-◌, ◌*◌, ◌/◌, ◌<◌, ◌≤◌, ⊎_elim, ◌⊎◌, inl, inr, true, false, cond, List, [], ◌∷◌, length, refl, sym, ap, ◌∙◌, subst, mul-add, mul-le-mul_right, arith, filter, fold, nat_lt, take, zip, Less, Contains}
 use Rattle.std.specs.List.{AllByRecursion, IsDistinct}
 use Rattle.std.specs.List.Sorted.{IsStrictlySortedBy}
 use Rattle.std.specs.Map.{keys_of}
@@ -9,11 +9,11 @@ use Rattle.std.proofs.lemmas.Bool.Decides.{nat_tests}
 use Rattle.std.proofs.lemmas.List.Sums.{length-filter}
 use Rattle.std.proofs.lemmas.List.Elements.{All-contains, All-contains_itself, All-map, All-weaker}
 use Rattle.hh_stream.specs.Weights.{Bytes, Entry, key_cmp, same_key, total_of, weight_of}
-use Rattle.hh_summaries.specs.Counters.{Counters, Fits, IsCounters, add_at, exceeds, level, max_k, over, tally}
+use Rattle.hh_summaries.specs.Counters.{Counters, add_at, exceeds, level, max_k, over, tally}
 use Rattle.hh_summaries.specs.Report.{by_rank, rank_cmp, ranked_in, weights_at}
 use Rattle.hh_summaries.proofs.Level.{is_level, over-cons}
 use Rattle.hh_summaries.proofs.Summaries.{total_of-cut}
-use Rattle.hh_summaries.proofs.Weights.{Distinct, by_add_at, in_from_number, number_from_in, rising-tally, same_self, same_sym, total_of-cons, total_of-tally, weight_of-tally}
+use Rattle.hh_summaries.proofs.Weights.{Distinct, by_add_at, in_from_number, number_from_in, rising-tally, same_self, same_sym, weight_of-tally}
 use Rattle.hh_summaries.proofs.Reports.{candidates, candidates_in, filter_in, keys_of-candidates, rising-filter, same_ranked, zip-weights_at}
 use Rattle.hh_counters.specs.Counting.{Count, count_of}
 use Rattle.hh_tally.specs.Tallies.{AreBounds, IsLoss, TallyView}
@@ -264,46 +264,15 @@ exact_top n f t xs bounds none is rows first are firsts =
     (λ (le : n ≤ length rows). inl le) (cases_lt (length rows) n) in
     firsts ∙ first_rows xs n f rows (are ∙ alike) enough
 
--- ---- the summary of what is chosen
-total_of-filter : (p : Entry → Bool) (c : Counters) → total_of (filter p c) ≤ total_of c
-total_of-filter p [] = omega arith
-total_of-filter p (e ∷ c) = cond_both (p e) (e ∷ filter p c) (filter p c) (λ (d : Counters). total_of d ≤ total_of (e ∷ c))
-    (λ _. omega (arith, total_of-cons e c, total_of-cons e (filter p c), total_of-filter p c))
-    (λ _. omega (arith, total_of-cons e c, total_of-filter p c))
-
--- entries that exceed a number are positive
-positive_over : (t : ℕ) (es : List Entry) → AllByRecursion (λ (e : Entry). 0 < e.1) (filter (exceeds t) es)
-positive_over t [] = tt
-positive_over t (e ∷ es) = cond_both (exceeds t e) (e ∷ filter (exceeds t) es) (filter (exceeds t) es)
-    (λ (c : Counters). AllByRecursion (λ (e : Entry). 0 < e.1) c)
-    (λ more. (grind (arith, nat_tests, more), positive_over t es)) (λ _. positive_over t es)
-
--- those counters that can exceed the floor make a summary
-pub chosen_fit : (n d : ℕ) (t : TallyView) (c : Counters) → t.total < 2 ^ 63 → IsLoss t.room.few t.total t.lost t.counters
-    → level t.counters max_k ≤ d → c ≡ filter (exceeds d) (tally t.counters) → length c ≡ over t.counters d
-    → Fits max_k t.total c
-chosen_fit n d t c fits loss least is count = record {
-  some = omega arith;
-  bounded_k = omega arith;
-  bounded_total = fits;
-  few = omega (
-    arith,
-    count,
-    over-falls (level t.counters max_k) d t.counters least,
-    (is_level t.counters max_k).at_most,
-  );
-  entries = subst IsCounters (sym is) (record {
-    rising = rising-filter (exceeds d) (tally t.counters) (rising-tally t.counters);
-    positive = positive_over d (tally t.counters);
-  });
-  within = omega (
-    arith,
-    ap total_of is,
-    total_of-filter (exceeds d) (tally t.counters),
-    total_of-tally t.counters,
-    loss,
-  );
-}
+-- the counters above a floor that is no lower are at most max_k
+pub chosen_few : (d : ℕ) (t : TallyView) (c : Counters) → level t.counters max_k ≤ d → length c ≡ over t.counters d
+    → length c ≤ max_k
+chosen_few d t c least count = omega (
+  arith,
+  count,
+  over-falls (level t.counters max_k) d t.counters least,
+  (is_level t.counters max_k).at_most,
+)
 
 -- ---- rows of a count
 all_zip : (P : Bytes → Type 0) (ks : List Bytes) (ns : List ℕ) → AllByRecursion P ks → AllByRecursion P (keys_of (zip ks ns))

@@ -3,7 +3,7 @@ use Rattle.std.specs.Prelude.{◌≡◌, ℕ, ◌+◌, ◌-◌, ◌*◌, ◌<◌
 use Rattle.std.specs.List.Sorted.{IsStrictlySortedBy}
 use Rattle.std.specs.Ordering.{is_lt}
 use Rattle.hh_stream.specs.Weights.{Bytes, Entry, total_of, weight_of}
-use Rattle.hh_summaries.specs.Counters.{Counters, SummaryView, exceeds, level, max_k, tally}
+use Rattle.hh_summaries.specs.Counters.{Counters, exceeds, level, max_k, tally}
 use Rattle.hh_summaries.specs.Report.{by_rank, rank_cmp}
 use Rattle.hh_tally.specs.Tallies.{TallyView}
 use Rattle.hh_faults.specs.declared.error.ToolError.{ToolError}
@@ -55,10 +55,6 @@ floor_of n t = max (most_uncounted t) (nth_counter n t - 1)
 -- the counters of the keys that can weigh more than that, at most max_k of them, by rising key
 abbrev pub chosen_of : ℕ → TallyView → Counters
 chosen_of n t = filter (exceeds (floor_of n t - t.lost)) (tally t.counters)
-
--- the summary with these counters
-abbrev pub choice_of : ℕ → TallyView → SummaryView
-choice_of n t = record { k = max_k; total = t.total; counters = chosen_of n t }
 
 -- of the n greatest keys only the first are certain, fewer than n: just these weigh more than `most`, which is at most what
 -- k counters leave open

@@ -1,6 +1,6 @@
 //! The greatest keys, of those that a tally has counters for.
 
-ghost use Rattle.std.specs.Prelude.{◌≡◌, ◌+◌, ◌*◌, ◌≤◌, List, IfErr, IfOk, nat_lt, take, true, zip};
+ghost use Rattle.std.specs.Prelude.{◌≡◌, ◌+◌, ◌*◌, ◌≤◌, List, IfErr, IfOk, length, nat_lt, take, true, zip};
 ghost use Rattle.std.specs.Map.{keys_of};
 ghost use Rattle.std.specs.List.Sorted.{IsStrictlySortedBy};
 ghost use Rattle.hh_stream.specs.Weights.{Entry, key_cmp};
@@ -8,13 +8,13 @@ ghost use Rattle.hh_summaries.specs.Counters.{max_k};
 ghost use Rattle.hh_summaries.specs.Report.{by_rank};
 ghost use Rattle.hh_counters.specs.Counting.{count_of};
 ghost use Rattle.hh_tally.specs.Tallies.{AreBounds};
-ghost use Rattle.hh_top.specs.Top.{GreatestRefused, IsTopFault, choice_of, chosen_of, floor_of};
+ghost use Rattle.hh_top.specs.Top.{GreatestRefused, IsTopFault, chosen_of, floor_of};
 ghost use Rattle.hh_top.specs.Top.{rows_over, stand_out, top};
 ghost use Rattle.hh_faults.specs.declared.error.ToolError.TheVariants.{Memory};
 
-use hh_counters::{Counts, Heavy, MAX_K, Summary};
+use hh_counters::{Candidates, Counts, Heavy, MAX_K};
 use hh_faults::ToolError;
-use hh_stream::{Key, TakeItems};
+use hh_stream::{Key, KeyHash, TakeItems};
 use hh_tally::Tally;
 use std::alloc::{AllocError, Global};
 use std::marker::Model;
@@ -90,17 +90,19 @@ impl Shortlist {
         self.most.max(self.counter.saturating_sub(1))
     }
 
-    /// A summary whose keys are to be counted for the `n` greatest: those of the tally that can
-    /// weigh more than what a key without a counter can, and no less than the n-th greatest
-    /// counter. They are at most [`MAX_K`].
-    pub fn choice(&self, alloc: Global) -> Result<Summary, AllocError>
-        ensures { IfOk result (λ choice. choice ≡ choice_of self.now.n self.now.tally) }
+    /// The keys to count for the `n` greatest, hashed by `hash`: those of the tally that can weigh
+    /// more than what a key without a counter can, and no less than the n-th greatest counter. They
+    /// are at most [`MAX_K`].
+    pub fn choice(&self, alloc: Global, hash: KeyHash) -> Result<Candidates, AllocError>
+        ensures keys { IfOk result
+            (λ choice. choice ≡ keys_of (chosen_of self.now.n self.now.tally)) }
+        ensures few { IfOk result (λ choice. length choice ≤ max_k) }
     {
         let floor = self.floor();
         let entries = self
             .tally
             .above(alloc, floor.saturating_sub(self.tally.lost()))?;
-        Ok(Summary::from_entries(MAX_K, self.tally.total(), entries))
+        Candidates::of_entries(alloc, &entries, hash)
     }
 
     /// The `n` greatest keys of the items that the tally is of, where the keys of

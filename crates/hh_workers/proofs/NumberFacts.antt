@@ -6,9 +6,10 @@ use Rattle.std.proofs.Common.{drop-cons, get_or-set_other, get_or-set_same}
 use Rattle.std.proofs.Math.ListN.{length-set}
 use Rattle.hh_workers.specs.Trees.{IsMergeTree, MergeTree, leaves}
 use Rattle.hh_shared.specs.Tally.{times, IsDistinctBelow}
-use Rattle.hh_workers.specs.PlanTexts.{AreMarked, NumbersRefused, PlanRefused, SpellsTree}
-use Rattle.hh_workers.specs.declared.parsing.PlanFault.{PlanFault}
-use Rattle.hh_workers.specs.declared.parsing.PlanFault.TheVariants as fault
+use Rattle.hh_workers.specs.PlanTexts.{AreMarked, AreNumbersWrong, NumbersRefused, PlanRefused, SpellsTree}
+use Rattle.hh_faults.specs.declared.error.ToolError.{ToolError}
+use Rattle.hh_faults.specs.declared.error.ToolError.TheVariants as tool
+use Rattle.hh_faults.specs.declared.error.TreeFault.TheVariants as bad
 use Rattle.hh_shared.proofs.Tallies.{distinct-push, times-push, times-push_other}
 
 -- a list at a place
@@ -63,18 +64,19 @@ all-came t marks p m own all = record {
     none i le = grind (arith, own.below i)
 
 -- a tree's numbers are refused after its text was read
-pub numbers-refused : (text : List ℕ) (t : MergeTree) (p : ℕ) (f : PlanFault) → SpellsTree text t
+pub numbers-refused : (text : List ℕ) (t : MergeTree) (p : ℕ) (f : ToolError) → SpellsTree text t
     → NumbersRefused p (leaves t) f → PlanRefused text p f
-numbers-refused text t p (fault.Syntax n) spells h = absurd h
-numbers-refused text t p (fault.UnknownPiece i) spells h = (t, spells, h)
-numbers-refused text t p (fault.RepeatedPiece i) spells h = (t, spells, h)
-numbers-refused text t p (fault.MissingPiece i) spells h = (t, spells, h)
-numbers-refused text t p fault.Memory spells h = tt
+numbers-refused text t p (tool.BadTree (bad.Syntax n)) spells h = absurd h
+numbers-refused text t p (tool.BadTree (bad.UnknownPiece i)) spells h = (t, spells, h)
+numbers-refused text t p (tool.BadTree (bad.RepeatedPiece i)) spells h = (t, spells, h)
+numbers-refused text t p (tool.BadTree (bad.MissingPiece i)) spells h = (t, spells, h)
+numbers-refused text t p tool.Memory spells h = tt
+numbers-refused text t p _ spells h = absurd h
 
 -- the least number that didn't come
 pub missing : (marks : List Bool) (p i : ℕ) (xs : List ℕ) → AreMarked marks p xs → IsDistinctBelow p xs
     → i < length marks → get_or marks i false ≡ false
-    → ((j : ℕ) → j < i → get_or marks j false ≡ true) → NumbersRefused p xs (fault.MissingPiece i)
+    → ((j : ℕ) → j < i → get_or marks j false ≡ true) → AreNumbersWrong p xs (bad.MissingPiece i)
 missing marks p i xs m own lt e below =
     let within : i < p = omega (arith, lt, m.0) in
     let others : (j : ℕ) → j < i → 0 < times j xs =

@@ -5,8 +5,10 @@ use Rattle.std.specs.Fmt.{decimal}
 use Rattle.hh_stream.specs.Digits.{is_digit}
 use Rattle.hh_shared.specs.Tally.{times, IsDistinctBelow}
 use Rattle.hh_workers.specs.Trees.{MergeTree, Piece, Merge, leaves}
-use Rattle.hh_workers.specs.declared.parsing.PlanFault.{PlanFault}
-use Rattle.hh_workers.specs.declared.parsing.PlanFault.TheVariants as fault
+use Rattle.hh_faults.specs.declared.error.ToolError.{ToolError}
+use Rattle.hh_faults.specs.declared.error.ToolError.TheVariants as tool
+use Rattle.hh_faults.specs.declared.error.TreeFault.{TreeFault}
+use Rattle.hh_faults.specs.declared.error.TreeFault.TheVariants as bad
 
 -- the text of a tree: a piece's number, or two trees in parentheses with a space between them
 abbrev pub text_of : MergeTree → List ℕ
@@ -51,28 +53,34 @@ AreMarked marks p xs =
     (length marks ≡ p) × ((i : ℕ) → i < p → slice_index_or marks i false ≡ nat_lt 0 (times i xs))
 
 -- what a refusal of a text tells
-abbrev pub SyntaxRefused : List ℕ → PlanFault → Type 0
-SyntaxRefused text (fault.Syntax n) = IsSyntaxFault text n
-SyntaxRefused text fault.Memory = ⊤
+abbrev pub SyntaxRefused : List ℕ → ToolError → Type 0
+SyntaxRefused text (tool.BadTree (bad.Syntax n)) = IsSyntaxFault text n
+SyntaxRefused text tool.Memory = ⊤
 SyntaxRefused text _ = ⊥
 
--- what a refusal of a tree's numbers tells
-abbrev pub NumbersRefused : ℕ → List ℕ → PlanFault → Type 0
-NumbersRefused p xs (fault.Syntax n) = ⊥
-NumbersRefused p xs (fault.UnknownPiece i) =
+-- what is wrong with a tree's numbers
+abbrev pub AreNumbersWrong : ℕ → List ℕ → TreeFault → Type 0
+AreNumbersWrong p xs (bad.Syntax n) = ⊥
+AreNumbersWrong p xs (bad.UnknownPiece i) =
     (before : List ℕ) × (after : List ℕ) × (xs ≡ before ++ i ∷ after) × IsDistinctBelow p before × (p ≤ i)
-NumbersRefused p xs (fault.RepeatedPiece i) =
+AreNumbersWrong p xs (bad.RepeatedPiece i) =
     (before : List ℕ) × (after : List ℕ) × (xs ≡ before ++ i ∷ after) × IsDistinctBelow p before × (0 < times i before)
-NumbersRefused p xs (fault.MissingPiece i) =
+AreNumbersWrong p xs (bad.MissingPiece i) =
     IsDistinctBelow p xs × (i < p) × (times i xs ≡ 0) × ((j : ℕ) → j < i → 0 < times j xs)
-NumbersRefused p xs fault.Memory = ⊤
+
+-- what a refusal of a tree's numbers tells
+abbrev pub NumbersRefused : ℕ → List ℕ → ToolError → Type 0
+NumbersRefused p xs (tool.BadTree f) = AreNumbersWrong p xs f
+NumbersRefused p xs tool.Memory = ⊤
+NumbersRefused p xs _ = ⊥
 
 -- what a refusal of a plan's text for p pieces tells: its syntax is judged first, and then its numbers from left to
 -- right
-abbrev pub PlanRefused : List ℕ → ℕ → PlanFault → Type 0
-PlanRefused text p (fault.Syntax n) = IsSyntaxFault text n
-PlanRefused text p fault.Memory = ⊤
-PlanRefused text p f = (t : MergeTree) × SpellsTree text t × NumbersRefused p (leaves t) f
+abbrev pub PlanRefused : List ℕ → ℕ → ToolError → Type 0
+PlanRefused text p (tool.BadTree (bad.Syntax n)) = IsSyntaxFault text n
+PlanRefused text p (tool.BadTree f) = (t : MergeTree) × SpellsTree text t × AreNumbersWrong p (leaves t) f
+PlanRefused text p tool.Memory = ⊤
+PlanRefused text p _ = ⊥
 
 -- ---- reading byte by byte
 -- an open parenthesis: its left tree is being read, or its right one after this left one

@@ -10,7 +10,6 @@ mod plan;
 mod workers;
 
 pub use gate::{Gate, OpenGate};
-pub use parsing::PlanFault;
 pub use pass::{Pass, add_numbers, run_sequentially, run_worker};
 pub use pieces::{CutStream, Pieces, only_memory};
 pub use plan::{Plan, Tree};

@@ -2,7 +2,6 @@
 
 ghost use Rattle.std.specs.Prelude.{◌≡◌, ◌<◌, ◌++◌, ℕ, false, true, length, map, slice_index_or};
 ghost use Rattle.std.specs.Prelude.{IfOk, IfErr, IfSome, IfNone, OnOk, option_map};
-ghost use Rattle.hh_workers.specs.declared.parsing.PlanFault.TheVariants.{Memory};
 ghost use Rattle.hh_workers.specs.Plans.{open_of, reading_of, shape};
 ghost use Rattle.hh_shared.specs.Tally.{IsDistinctBelow};
 ghost use Rattle.hh_workers.specs.PlanTexts.{AreMarked, NumbersRefused, PlanRefused, SyntaxRefused};
@@ -10,38 +9,9 @@ ghost use Rattle.hh_workers.specs.PlanTexts.{SpellsTree, after_tree, at_start, r
 ghost use Rattle.hh_workers.specs.Trees.{IsMergeTree, leaves};
 
 use crate::plan::{Tree, node};
+use hh_faults::{ToolError, TreeFault};
 use std::alloc::{AllocError, Global};
 use std::collections::VecDeque;
-use thiserror::Error;
-
-/// Why a text is no plan of a number of pieces.
-#[derive(Clone, Copy, Debug, PartialEq, Eq, Error)]
-pub enum PlanFault {
-    /// The text up to this byte can be continued to a tree, and with the byte it can't; where the
-    /// text ends too early it is the text's length.
-    #[error("syntax at byte {0}")]
-    Syntax(usize),
-    /// There is no piece of this number.
-    #[error("no piece {0}")]
-    UnknownPiece(usize),
-    /// The piece of this number came before.
-    #[error("piece {0} twice")]
-    RepeatedPiece(usize),
-    /// The piece of this number didn't come, and it is the least such one.
-    #[error("piece {0} missing")]
-    MissingPiece(usize),
-    /// The allocator had no memory.
-    #[error("out of memory")]
-    Memory,
-}
-
-impl From<AllocError> for PlanFault {
-    ghost from_gives = { λ _ e. e ≡ Memory };
-
-    fn from(_e: AllocError) -> PlanFault {
-        PlanFault::Memory
-    }
-}
 
 /// An open parenthesis: its left tree is being read, or its right one after this left one.
 #[derive(Drop)]
@@ -146,7 +116,7 @@ fn ended_tree(reading: Reading) -> Option<Tree>
 }
 
 /// The tree that a text spells.
-fn tree_of(alloc: Global, text: &[u8]) -> Result<Tree, PlanFault>
+fn tree_of(alloc: Global, text: &[u8]) -> Result<Tree, ToolError>
     ensures tree { IfOk result (λ tree. SpellsTree text.now (shape tree)) }
     ensures refused { IfErr result (λ fault. SyntaxRefused text.now fault) }
 {
@@ -156,13 +126,13 @@ fn tree_of(alloc: Global, text: &[u8]) -> Result<Tree, PlanFault>
     };
     for (i, byte) in text.iter().enumerate() {
         let Some(next) = step(alloc, reading, *byte)? else {
-            return Err(PlanFault::Syntax(i));
+            return Err(ToolError::BadTree(TreeFault::Syntax(i)));
         };
         reading = next;
     }
     match ended_tree(reading) {
         Some(tree) => Ok(tree),
-        None => Err(PlanFault::Syntax(text.len())),
+        None => Err(ToolError::BadTree(TreeFault::Syntax(text.len()))),
     }
 }
 
@@ -180,7 +150,7 @@ fn add_numbers(tree: &Tree, numbers: &mut Vec<usize>) -> Result<(), AllocError>
 }
 
 /// Marks which of `pieces` pieces the numbers name, if they are different ones.
-fn marks_of(alloc: Global, numbers: &[usize], pieces: usize) -> Result<Vec<bool>, PlanFault>
+fn marks_of(alloc: Global, numbers: &[usize], pieces: usize) -> Result<Vec<bool>, ToolError>
     ensures marks { IfOk result (λ marks. AreMarked marks.items pieces numbers.now) }
     ensures own { OnOk result (IsDistinctBelow pieces numbers.now) }
     ensures refused { IfErr result (λ fault. NumbersRefused pieces numbers.now fault) }
@@ -188,10 +158,10 @@ fn marks_of(alloc: Global, numbers: &[usize], pieces: usize) -> Result<Vec<bool>
     let mut marks = vec![in alloc; false; pieces]?;
     for number in numbers {
         if *number >= pieces {
-            return Err(PlanFault::UnknownPiece(*number));
+            return Err(ToolError::BadTree(TreeFault::UnknownPiece(*number)));
         }
         if marks[*number] {
-            return Err(PlanFault::RepeatedPiece(*number));
+            return Err(ToolError::BadTree(TreeFault::RepeatedPiece(*number)));
         }
         marks[*number] = true;
     }
@@ -210,7 +180,7 @@ fn least_unmarked(marks: &[bool]) -> Option<usize>
 }
 
 /// Refuses a tree that doesn't have each of `pieces` numbers once.
-fn check_numbers(alloc: Global, tree: &Tree, pieces: usize) -> Result<(), PlanFault>
+fn check_numbers(alloc: Global, tree: &Tree, pieces: usize) -> Result<(), ToolError>
     ensures merges { OnOk result (IsMergeTree (shape tree.now) pieces) }
     ensures refused { IfErr result
         (λ fault. NumbersRefused pieces (leaves (shape tree.now)) fault) }
@@ -220,12 +190,12 @@ fn check_numbers(alloc: Global, tree: &Tree, pieces: usize) -> Result<(), PlanFa
     let marks = marks_of(alloc, &numbers, pieces)?;
     match least_unmarked(&marks) {
         None => Ok(()),
-        Some(i) => Err(PlanFault::MissingPiece(i)),
+        Some(i) => Err(ToolError::BadTree(TreeFault::MissingPiece(i))),
     }
 }
 
 /// Reads a merge tree of `pieces` pieces.
-pub(crate) fn read_merge_tree(alloc: Global, text: &[u8], pieces: usize) -> Result<Tree, PlanFault>
+pub(crate) fn read_merge_tree(alloc: Global, text: &[u8], pieces: usize) -> Result<Tree, ToolError>
     ensures tree { IfOk result (λ tree. SpellsTree text.now (shape tree)) }
     ensures merges { IfOk result (λ tree. IsMergeTree (shape tree) pieces) }
     ensures refused { IfErr result (λ fault. PlanRefused text.now pieces fault) }

@@ -6,7 +6,8 @@ ghost use Rattle.hh_workers.specs.PlanTexts.{PlanRefused, SpellsTree};
 ghost use Rattle.hh_workers.specs.Plans.{shape};
 ghost use Rattle.hh_workers.specs.Trees.{IsBalanced, IsMergeTree, Merge, chain_of, leaves};
 
-use crate::parsing::{PlanFault, read_merge_tree};
+use crate::parsing::read_merge_tree;
+use hh_faults::ToolError;
 use std::alloc::{AllocError, Global};
 use std::marker::Model;
 
@@ -119,9 +120,9 @@ impl Plan {
     ///
     /// The syntax is judged over the whole text first. Then the numbers are taken from left to
     /// right: the error names the first one that is unknown or came before, and then the least one
-    /// that is missing.
+    /// that is missing. It is `BadTree`, or `Memory`.
     #[tactic(auto, using(crate::proofs::LeafFacts::length_leaves))]
-    pub fn parse(alloc: Global, text: &[u8], pieces: usize) -> Result<Plan, PlanFault>
+    pub fn parse(alloc: Global, text: &[u8], pieces: usize) -> Result<Plan, ToolError>
         requires some { 1 ≤ pieces }
         requires few { pieces ≤ max_pieces }
         ensures spelled { IfOk result (λ plan. SpellsTree text.now plan) }

@@ -4,7 +4,6 @@ ghost use Rattle.std.specs.Prelude.{◌≡◌, ◌<◌, ◌^◌, List, IfOk, IfE
 ghost use Rattle.std.specs.Map.{keys_of};
 ghost use Rattle.hh_stream.specs.Weights.{Entry, total_of};
 ghost use Rattle.hh_counters.specs.Condensed.{condensed, free_name, other_name};
-ghost use Rattle.hh_summaries.specs.Counters.{IsCounters};
 ghost use Rattle.hh_records.specs.Layouts.{records_known};
 ghost use Rattle.hh_rows.specs.Rows.{condensed_by};
 ghost use Rattle.hh_commands.specs.Bounds.{ComparesBounds, TellsOutside};
@@ -16,7 +15,7 @@ use crate::compared::{Bounds, Comparison, key_outside};
 use crate::counting::count_records;
 use crate::files::summary_in;
 use hh_counters::laws::{condensed_is_counted, free_name_is_first};
-use hh_counters::{Counts, Heavy, Summary};
+use hh_counters::{Candidates, Counts, Heavy, Summary};
 use hh_faults::ToolError;
 use hh_records::{ReadRecords, Records};
 use hh_rows::condensed_rows_text;
@@ -69,13 +68,14 @@ pub fn condensed_rows(
     summary: &Summary,
     counts: &Counts,
 ) -> Result<Vec<Heavy>, AllocError>
-    requires counters { IsCounters summary.now.counters }
     requires counted { (xs : List Entry) × IsCountOf (keys_of summary.now.counters) xs counts.now }
     ensures { IfOk result (λ rows. (xs : List Entry)
         → IsCountOf (keys_of summary.now.counters) xs counts.now
         → rows.items ≡ condensed summary.now.counters xs) }
 {
     condensed_is_counted();
+    // The counters of a summary are by rising key.
+    let _rising = summary.len();
     let mut rows = counts.rows(alloc)?;
     let others = counts.total() - total_of(&rows);
     if others > 0 {
@@ -95,7 +95,6 @@ pub fn condensed_counts(
     counts: &Counts,
     decimals: u8,
 ) -> Result<Vec<u8>, AllocError>
-    requires counters { IsCounters summary.now.counters }
     requires counted { (xs : List Entry) × IsCountOf (keys_of summary.now.counters) xs counts.now }
     ensures { IfOk result (λ text. (xs : List Entry)
         → IsCountOf (keys_of summary.now.counters) xs counts.now
@@ -115,7 +114,6 @@ pub fn condensed_part(
     decimals: u8,
     compared: &mut Comparison,
 ) -> Result<Vec<u8>, ToolError>
-    requires counters { IsCounters summary.now.counters }
     requires counted { (xs : List Entry) × IsCountOf (keys_of summary.now.counters) xs counts.now }
     ensures rows { IfOk result (λ text. (xs : List Entry)
         → IsCountOf (keys_of summary.now.counters) xs counts.now
@@ -153,7 +151,8 @@ pub fn condensed_records<R: ReadRecords>(
     ensures early { StopsAtHead 1 file.now result }
 {
     let summary = summary_in(alloc, file)?;
-    let counts = count_records(alloc, &summary, records)?;
+    let candidates = Candidates::with_hasher(alloc, &summary, records.hash())?;
+    let counts = count_records(alloc, &candidates, records)?;
     condensed_part(alloc, &summary, &counts, decimals, compared)
 }
 

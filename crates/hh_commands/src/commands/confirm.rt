@@ -15,7 +15,7 @@ use crate::compared::{Bounds, Comparison, key_outside};
 use crate::counting::count_records;
 use crate::files::summary_in;
 use hh_counters::laws::candidates_suffice;
-use hh_counters::{Counts, Heavy, Summary};
+use hh_counters::{Candidates, Counts, Heavy, Summary};
 use hh_faults::{ToolError, Totals};
 use hh_records::ReadRecords;
 use hh_rows::{RowOptions, Share, printed_text, threshold_of};
@@ -34,9 +34,9 @@ pub fn rows_above(
         → rows.items ≡ confirmed_above p q summary.now xs) }
 {
     candidates_suffice();
-    // the counters of a summary are by rising key
+    // The counters of a summary are by rising key.
     let _rising = summary.len();
-    let rows = counts.select_above(p, q)?;
+    let rows = counts.select(p, q)?;
     Ok(rows)
 }
 
@@ -114,6 +114,7 @@ pub fn confirm_rows<R: ReadRecords>(
     let Some(share) = threshold_of(summary.k(), share) else {
         return Err(ToolError::BadThreshold);
     };
-    let counts = count_records(alloc, &summary, records)?;
+    let candidates = Candidates::with_hasher(alloc, &summary, records.hash())?;
+    let counts = count_records(alloc, &candidates, records)?;
     confirmed_text(alloc, &summary, share, rows, &counts, compared)
 }

@@ -10,9 +10,9 @@ ghost use Rattle.hh_commands.specs.Files.{Refuses, StopsAtHead};
 ghost use Rattle.hh_commands.specs.Merge.{merge_saved, merged_files};
 
 use crate::files::{file_of, written};
-use hh_counters::Summary;
-use hh_countmin::Table;
+use hh_counters::{Summary, SummaryFault};
 use hh_countmin::laws::equal_families_are_one;
+use hh_countmin::{Table, TableFault};
 use hh_faults::{MergeCause, ToolError};
 use hh_saved::Saved;
 use std::alloc::Global;
@@ -32,9 +32,10 @@ fn merge_counters(summary: &mut Summary, number: u64, other: &Summary) -> Result
 {
     let cause = match summary.merge(other) {
         Ok(()) => return Ok(()),
-        Err(hh_counters::MergeFault::DifferentK) => MergeCause::DifferentK,
-        Err(hh_counters::MergeFault::TotalTooLarge) => MergeCause::TotalTooLarge,
-        Err(hh_counters::MergeFault::Memory) => return Err(ToolError::Memory),
+        Err(SummaryFault::DifferentK) => MergeCause::DifferentK,
+        Err(SummaryFault::TotalTooLarge) => MergeCause::TotalTooLarge,
+        Err(SummaryFault::Memory) => return Err(ToolError::Memory),
+        Err(SummaryFault::BadK) => return Err(ToolError::BadK),
     };
     Err(ToolError::CannotMerge { number, cause })
 }
@@ -50,9 +51,10 @@ fn merge_cells(table: &mut Table, number: u64, other: &Table) -> Result<(), Tool
     equal_families_are_one();
     let cause = match table.merge(other) {
         Ok(()) => return Ok(()),
-        Err(hh_countmin::MergeFault::DifferentFamily) => MergeCause::DifferentFamily,
-        Err(hh_countmin::MergeFault::DifferentWidth) => MergeCause::DifferentWidth,
-        Err(hh_countmin::MergeFault::TotalTooLarge) => MergeCause::TotalTooLarge,
+        Err(TableFault::DifferentFamily) => MergeCause::DifferentFamily,
+        Err(TableFault::DifferentWidth) => MergeCause::DifferentWidth,
+        Err(TableFault::TotalTooLarge) => MergeCause::TotalTooLarge,
+        Err(_) => unreachable!("no other fault of a merge"),
     };
     Err(ToolError::CannotMerge { number, cause })
 }

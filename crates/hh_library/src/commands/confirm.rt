@@ -8,68 +8,34 @@ ghost use Rattle.hh_counters.specs.Counting.{count_of};
 ghost use Rattle.hh_rows.specs.Rows.{rows_of};
 ghost use Rattle.hh_records.specs.Streams.{ReadsAs};
 ghost use Rattle.hh_commands.specs.Confirm.{CountRefused, confirmed_above, confirmed_rows};
-ghost use Rattle.hh_library.specs.Confirm.{TotalRefused, confirm_fault};
-ghost use Rattle.hh_library.specs.declared.commands.confirm.ConfirmFault.TheVariants.{Memory};
+ghost use Rattle.hh_library.specs.Confirm.{TotalRefused};
 
 use hh_commands::{count_records, rows_above};
 use hh_counters::laws::counts_follow_items;
-use hh_counters::{Counts, Heavy, Summary};
+use hh_counters::{Candidates, Counts, Heavy, Summary};
 use hh_faults::ToolError;
 use hh_records::ReadRecords;
 use hh_rows::report_text;
 use hh_stream::Stream;
-use std::alloc::{AllocError, Global};
-use thiserror::Error;
-
-/// Why a summary was not confirmed.
-#[derive(Clone, Copy, Debug, PartialEq, Eq, Error)]
-pub enum ConfirmFault {
-    /// The summary's total is not the stream's.
-    #[error("the summary's total is not the stream's")]
-    TotalDiffers,
-    /// The allocator had no memory.
-    #[error("out of memory")]
-    Memory,
-}
-
-impl From<AllocError> for ConfirmFault {
-    ghost from_gives = { λ _ fault. fault ≡ Memory };
-
-    fn from(_: AllocError) -> ConfirmFault {
-        ConfirmFault::Memory
-    }
-}
-
-impl From<ConfirmFault> for ToolError {
-    ghost from_gives = { λ fault error. error ≡ confirm_fault fault };
-
-    fn from(fault: ConfirmFault) -> ToolError {
-        match fault {
-            ConfirmFault::TotalDiffers => ToolError::TotalDiffers,
-            ConfirmFault::Memory => ToolError::Memory,
-        }
-    }
-}
+use std::alloc::Global;
 
 /// The keys of a summary that are heavy in a stream, with their true weights: those above the
 /// total divided by the summary's k + 1, by falling weight and then by rising key.
 ///
 /// Where the summary is that of the stream, or a merge of its pieces' summaries, these are all
-/// heavy keys of the stream.
-pub fn confirm(
-    alloc: Global,
-    summary: &Summary,
-    stream: &Stream,
-) -> Result<Vec<Heavy>, ConfirmFault>
+/// heavy keys of the stream. The error is the first of `TotalDiffers` and `Memory` that holds.
+pub fn confirm(alloc: Global, summary: &Summary, stream: &Stream) -> Result<Vec<Heavy>, ToolError>
     ensures rows { IfOk result (λ rows. rows.items ≡ confirmed_rows summary.now stream.now) }
-    ensures total_differs { IsErrOf result ConfirmFault.TotalDiffers
+    ensures total_differs { IsErrOf result ToolError.TotalDiffers
         ↔ (summary.now.total ≢ total_of stream.now) }
+    ensures refused { IfErr result (TotalRefused summary.now.total (total_of stream.now)) }
 {
     counts_follow_items();
     if summary.total() != stream.total() {
-        return Err(ConfirmFault::TotalDiffers);
+        return Err(ToolError::TotalDiffers);
     }
-    let mut counts = Counts::of(alloc, summary)?;
+    let candidates = Candidates::of(alloc, summary)?;
+    let mut counts = Counts::new(alloc, &candidates)?;
     counts.add_stream(stream);
     Ok(rows_above(summary, &counts, 1, summary.k() + 1)?)
 }
@@ -111,6 +77,7 @@ pub(crate) fn confirm_records<R: ReadRecords>(
     ensures refused { IfErr result (λ fault.
         CountRefused summary.now (R.known records) fault) }
 {
-    let counts = count_records(alloc, summary, records)?;
+    let candidates = Candidates::with_hasher(alloc, summary, records.hash())?;
+    let counts = count_records(alloc, &candidates, records)?;
     counted_text(alloc, summary, share, &counts)
 }

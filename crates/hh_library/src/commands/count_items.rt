@@ -12,7 +12,7 @@ ghost use Rattle.hh_commands.specs.Files.{Refuses, StopsAtHead};
 use crate::commands::confirm::counted_text;
 use crate::items::count_items;
 use hh_commands::{condensed_counts, summary_in};
-use hh_counters::{Summary, is_threshold};
+use hh_counters::{Candidates, Summary, is_threshold};
 use hh_faults::ToolError;
 use hh_stream::KeyHash;
 use std::alloc::Global;
@@ -52,7 +52,8 @@ fn condensed_items_text(
         condensed_in summary.now (entries items.now) ≡ Ok rows.items) }
     ensures refused { IfErr result (Refuses (condensed_in summary.now (entries items.now))) }
 {
-    let counts = count_items(alloc, summary, items, hash)?;
+    let candidates = Candidates::with_hasher(alloc, summary, hash)?;
+    let counts = count_items(alloc, &candidates, items)?;
     Ok(condensed_counts(alloc, summary, &counts, 0)?)
 }
 
@@ -89,7 +90,8 @@ fn confirmed_items_text(
     ensures refused { IfErr result (Refuses
         (confirmed_in summary.now (Some share) (entries items.now))) }
 {
-    let counts = count_items(alloc, summary, items, hash)?;
+    let candidates = Candidates::with_hasher(alloc, summary, hash)?;
+    let counts = count_items(alloc, &candidates, items)?;
     counted_text(alloc, summary, share, &counts)
 }
 

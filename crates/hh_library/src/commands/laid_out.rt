@@ -20,7 +20,7 @@ use hh_commands::{
     summary_by_monitoring, summary_in,
 };
 use hh_counters::laws::{candidates_suffice, misra_gries_is_honest};
-use hh_counters::{Heavy, MAX_K};
+use hh_counters::{Candidates, Heavy, MAX_K};
 use hh_faults::{TextError, ToolError};
 use hh_records::{Layout, ReadRecords, read_texts};
 use hh_rows::{RowOptions, printed_text};
@@ -108,7 +108,8 @@ pub fn confirm_bounded<R: ReadRecords>(
     let Some(share) = share_or_least(share, summary.k()) else {
         return Err(ToolError::BadThreshold);
     };
-    let counts = count_records(alloc, &summary, records)?;
+    let candidates = Candidates::with_hasher(alloc, &summary, records.hash())?;
+    let counts = count_records(alloc, &candidates, records)?;
     let rows = rows_in_units(decimals);
     let mut compared = Comparison::new(true);
     confirmed_text(alloc, &summary, share, &rows, &counts, &mut compared)
@@ -156,7 +157,8 @@ fn heavy_keys(
     misra_gries_is_honest();
     candidates_suffice();
     let summary = summary_by_monitoring(alloc, k, records)?;
-    let counts = count_records(alloc, &summary, records)?;
+    let candidates = Candidates::with_hasher(alloc, &summary, records.hash())?;
+    let counts = count_records(alloc, &candidates, records)?;
     let keys = rows_above(&summary, &counts, share.0, share.1)?;
     Ok((counts.total(), keys))
 }

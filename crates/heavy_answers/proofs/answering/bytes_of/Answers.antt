@@ -24,10 +24,10 @@ returns-in-Table-clause-made g c = rw c.in-Table.is c.in_one_pass-in-Table.ensur
 pub returns-in-Table-clause-refused : goal.returns-in-Table-clause-refused
 returns-in-Table-clause-refused g c = rw c.in-Table.is c.in_one_pass-in-Table.ensures.refused
 
-pub returns-in_ok-saved_file-in-Ask-clause-refused : goal.returns-in_ok-saved_file-in-Ask-clause-refused
-returns-in_ok-saved_file-in-Ask-clause-refused g c =
-    rw c.in-Ask.is (if_err_by _ _ _ _ c.ask_rows.result c.in_ok-saved_file-in-Ask.field-0.items
-    (rw c.deref-in-Ask.ensures.value at c.in_ok-saved_file-in-Ask.ensures.read)
+pub returns-in_ok-read_file-in-Ask-clause-refused : goal.returns-in_ok-read_file-in-Ask-clause-refused
+returns-in_ok-read_file-in-Ask-clause-refused g c =
+    rw c.in-Ask.is (if_err_by _ _ _ _ c.ask_rows.result c.in_ok-read_file-in-Ask.field-0.items
+    (rw c.deref-in-Ask.ensures.value at c.in_ok-read_file-in-Ask.ensures.read)
     (rw (c.deref-in-Ask-2.ensures.value, c.deref-in-Ask-3.ensures.value) at c.ask_rows.ensures.refused))
 
 pub returns-in_ok-file-in-Condense-clause-made : goal.returns-in_ok-file-in-Condense-clause-made

@@ -1,6 +1,6 @@
 use Rattle.std.proofs.Common.{rules, ◌≡◌, ◌∙◌, ◌+◌, ◌⊎◌, inl, inr, ◌∷◌, ◌++◌, [], None, map, take, slice_index_or, sym, ap, subst}
 use Rattle.std.proofs.lemmas.List.{map-append}
-use Rattle.heavy_host.specs.declared.files.ReadFailure.TheVariants.{Unreadable, Memory}
+use Rattle.hh_faults.specs.declared.error.ToolError.TheVariants.{FileFault, Memory}
 use Rattle.heavy_host.specs.Files.{AreRead, TellsFile}
 use Rattle.heavy_host.proofs.FileLemmas.{AreRead-next, TellsFile-next}
 use Rattle.heavy_host.proofs.files.read_files.Goals as goal
@@ -11,7 +11,7 @@ returns-in_err-push_file-2-clause-fault g c =
     c.deref.ensures.value ∙ ap (λ v. v.items) c.index-others-i.is in
     let gives = g.F.FileSource.gives c.args.source.now in
     let fault = c.in_err-push_file-2.field-0.0 in
-    let cause : (fault ≡ Memory) ⊎ ((fault ≡ Unreadable (c.loop-i.i + 2)) × gives (slice_index_or c.args.others.now c.loop-i.i c.index-others-i.result).items None) =
+    let cause : (fault ≡ Memory) ⊎ ((fault ≡ FileFault (c.loop-i.i + 2)) × gives (slice_index_or c.args.others.now c.loop-i.i c.index-others-i.result).items None) =
     elim c.in_err-push_file-2.ensures.fault [
       | inl memory ↦ inl memory
       | inr unread ↦ rw (unread, name) at c.read_file-in-loop-i.ensures.fault

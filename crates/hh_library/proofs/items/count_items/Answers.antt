@@ -1,5 +1,4 @@
 use Rattle.std.proofs.Common.{refl, sym}
-use Rattle.std.specs.Map.{keys_of}
 use Rattle.hh_commands.specs.Ask.{unless}
 use Rattle.hh_library.proofs.AddFacts.{item_fails, items_end}
 use Rattle.hh_library.proofs.CountFacts.{count_goes_on}
@@ -11,13 +10,13 @@ returns-in-Some-clause-refused c =
     let first =
     item_fails (λ item. (item.0.now, item.1)) c.args.items.now c.loop-i.i _ _ refl c.loop-i-test.true _ _
     c.loop-i.invariant.0 c.in-Some.fault (rw c.total.ensures.total at (sym c.in-Some.ensures.fault)) in
-    refuses (unless _ c.args.summary.now) c.in-Some.fault (rw first refl)
+    refuses (unless _ c.args.candidates.now) c.in-Some.fault (rw first refl)
 
 pub loop-i-preserved : goal.loop-i-preserved
 loop-i-preserved c =
     let passed = c.in_default.ensures in
     rw c.add_bytes.ensures
-    (count_goes_on (λ item. (item.0.now, item.1)) c.args.items.now (keys_of c.args.summary.now.counters) c.loop-i.i _ _ refl
+    (count_goes_on (λ item. (item.0.now, item.1)) c.args.items.now c.args.candidates.now c.loop-i.i _ _ refl
     c.loop-i-test.true c.counts_follow_items.ensures c.loop-i.counts _ (passed.weighs refl)
     (rw c.total.ensures.total at (sym passed.fault)) c.loop-i.invariant)
 

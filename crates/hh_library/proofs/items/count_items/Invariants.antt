@@ -1,5 +1,4 @@
 use Rattle.std.proofs.Common.{◌≡◌, ◌+◌, drop, take}
-use Rattle.std.specs.Map.{keys_of}
 use Rattle.hh_library.specs.Add.{bad_item, entries}
 use Rattle.hh_commands.specs.Records.{IsCountOf}
 use Rattle.hh_library.proofs.items.count_items.Given as goal
@@ -8,4 +7,4 @@ use Rattle.hh_library.proofs.items.count_items.Given as goal
 abbrev pub invariant-loop-i : goal.invariant-loop-i
 invariant-loop-i l =
     (bad_item (l.i + 1) l.counts.total (drop l.i (entries l.items)) ≡ bad_item 1 0 (entries l.items))
-    × IsCountOf (keys_of l.summary.counters) (entries (take l.i l.items)) l.counts
+    × IsCountOf l.candidates (entries (take l.i l.items)) l.counts

@@ -17,8 +17,8 @@ returns-in-Err-DifferentK-clause-refused g c is known =
     (omega (arith, total, c.total-total.ensures.total, c.total-total.ensures.fits.total_in_range))
     (c.in_ok-summaries.ensures.summaries known) refused)
 
-pub returns-clause-refused : goal.returns-clause-refused
-returns-clause-refused g c is known =
+pub returns-in-Err-TotalTooLarge-clause-refused : goal.returns-in-Err-TotalTooLarge-clause-refused
+returns-in-Err-TotalTooLarge-clause-refused g c is known =
     let refused = rw c.in-Err-TotalTooLarge.field-0-is at c.in-Err-TotalTooLarge.ensures.refused in
     let total = ap (λ (t : TableView). t.total) (c.in_ok-summaries.ensures.table known) in
     absurd (no_refusal _ _ (g.P.Pieces.pieces c.args.pieces.now) _ _ c.requires.plan

@@ -22,6 +22,7 @@ returns c =
     record {
       merged = merged;
       refused = rw (c.tree.ensures.tree, c.deref_mut.ensures.value) at c.merge_tree.ensures.refused;
+      faults = c.merge_tree.ensures.faults;
       k = IfOk-weaker _ of _ (λ s is. is.same_k) made;
       total = IfOk-weaker _ of _ (λ s is. is.total) made;
       counters = IfOk-weaker _ of _ (λ s is. is.counters) made;

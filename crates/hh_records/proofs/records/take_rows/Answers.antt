@@ -2,6 +2,7 @@ use Rattle.std.proofs.Common.{◌++◌, ◌<◌, [], arith, inl, ◌∙◌, sym,
 use Rattle.std.specs.Prelude.{fold}
 use Rattle.std.proofs.lemmas.List.Elements.{All-append, All-from_recursion}
 use Rattle.std.proofs.lemmas.List.Sums.{fold-append, sum_by-append}
+use Rattle.std.proofs.lemmas.Result.{err_from_is_err_and}
 use Rattle.csv.specs.Reading.{reader_config, reader_state, source_of}
 use Rattle.hh_stream.specs.Weights.{Entry}
 use Rattle.hh_records.specs.Layouts.{chosen_places, parts_at}
@@ -54,12 +55,12 @@ loop-number-preserved g c =
     let (xs, total, weigh, made, so_far) = inv.5 in
     let e = c.in-Ok-true.ensures in
     let r = rw c.in-Ok-true.field-0-test at (e.reads inv.0 inv.1) in
-    let t = c.in-Ok.ensures.taken in (
+    let t = c.in_ok-take_record.ensures.taken in (
       r.3 ∙ inv.0,
       inl (e.ready inv.0),
       e.flexible ∙ inv.2,
       r.2 ∙ inv.3,
-      c.in-Ok.ensures.bounded,
+      c.in_ok-take_record.ensures.bounded,
       (
         xs ++ t.xs,
         omega (arith, t.weight, total, sum_by-append (λ (d : Entry). d.1) xs t.xs),
@@ -73,15 +74,15 @@ loop-number-preserved g c =
       ),
     )
 
-pub returns-in-Err-take_record-clause-refused : goal.returns-in-Err-take_record-clause-refused
-returns-in-Err-take_record-clause-refused g c =
+pub returns-in_err-take_record-clause-refused : goal.returns-in_err-take_record-clause-refused
+returns-in_err-take_record-clause-refused g c =
+    let p = err_from_is_err_and c.from_residual.result c.from_residual.ensures.1 in
     let inv = c.loop-number.invariant in
     let (xs, total, weigh, made, so_far) = inv.5 in
     let r = rw c.in-Ok-true.field-0-test at (c.in-Ok-true.ensures.reads inv.0 inv.1) in
-    rw c.numbered_fault.ensures
-    (read-refused (reader_config c.args.rows.now) (parts_at (chosen_places c.args.chosen.now))
+    rw (p.1, p.2) (read-refused (reader_config c.args.rows.now) (parts_at (chosen_places c.args.chosen.now))
     c.args.layout.now (reader_state c.args.rows.now) c.args.before (g.T.TakeItems.weight_taken c.args.taker.now)
     (λ r. g.R.Read.remaining r.inner) c.loop-number.rows c.read_byte_record.new.self _ xs c.loop-number.number inv.3 _ _
     (between-known (reader_state c.args.rows.now)
     (source_of (λ r. g.R.Read.remaining r.inner) c.args.rows.now)) so_far r
-    (rw (← total) c.in-Err-take_record.ensures.refused))
+    (rw (← total) c.in_err-take_record.ensures.refused))

@@ -1,11 +1,12 @@
 use Rattle.std.proofs.Common.{◌∷◌, arith}
+use Rattle.std.proofs.lemmas.Result.{err_from_is_err_and}
 use Rattle.hh_records.specs.Layouts.{names_columns}
 use Rattle.hh_records.proofs.OpenFacts.{records-read, records-refused}
 use Rattle.hh_records.proofs.texts.read_each.Goals as goal
 
-pub returns-in-Ok-clause-items : goal.returns-in-Ok-clause-items
-returns-in-Ok-clause-items g c =
-    let t = c.in-Ok.ensures.items in
+pub returns-clause-items : goal.returns-clause-items
+returns-clause-items g c =
+    let t = c.in_ok-read_all.ensures.items in
     record {
       xs = t.xs;
       reads = records-read g.R.Read.remaining c.args.layout.now (c.args.first ∷ c.args.others.items)
@@ -20,8 +21,9 @@ read_all-requires g c = record {
   bounded = omega (arith, c.requires.none);
 }
 
-pub returns-in-Err-clause-refused : goal.returns-in-Err-clause-refused
-returns-in-Err-clause-refused g c =
-    records-refused g.R.Read.remaining c.args.layout.now (c.args.first ∷ c.args.others.items) c.in_ok-texts.texts.items
-    c.in_ok-texts.ensures.opened (names_columns c.args.layout.now) c.in-Err.error
-    (rw c.requires.none at c.in-Err.ensures.refused)
+pub returns-in_err-read_all-clause-refused : goal.returns-in_err-read_all-clause-refused
+returns-in_err-read_all-clause-refused g c =
+    let p = err_from_is_err_and c.from_residual-in_err-read_all.result c.from_residual-in_err-read_all.ensures.1 in
+    rw (p.1, p.2) (records-refused g.R.Read.remaining c.args.layout.now (c.args.first ∷ c.args.others.items)
+    c.in_ok-texts.texts.items c.in_ok-texts.ensures.opened (names_columns c.args.layout.now) c.in_err-read_all.field-0.0
+    (rw c.requires.none at c.in_err-read_all.ensures.refused))

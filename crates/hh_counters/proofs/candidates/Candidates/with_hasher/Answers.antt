@@ -1,4 +1,4 @@
-use Rattle.std.proofs.Common.{◌≡◌, ℕ, ◌≤◌, List, length, take, get_or, sym, ap, ◌∙◌, subst, arith, rules}
+use Rattle.std.proofs.Common.{◌≡◌, ℕ, ◌≤◌, List, length, take, get_or, sym, ap, ◌∙◌, subst, arith}
 use Rattle.std.specs.List.Sorted.{IsStrictlySortedBy}
 use Rattle.std.specs.Map.{keys_of}
 use Rattle.std.proofs.lemmas.List.{get_or-map, take_all}
@@ -34,12 +34,13 @@ invariant_of-result c =
     (omega (arith, c.loop-i-test.false, c.len-i-end.ensures.len)) in
     subst (IsStrictlySortedBy key_cmp) (sym all) c.len.ensures.counters.rising
 
-pub returns : goal.returns
-returns c = whole c.loop-i.keys.keys c.loop-i.i c.args.summary.now.counters c.loop-i.invariant
+pub returns-clause-keys : goal.returns-clause-keys
+returns-clause-keys c = whole c.loop-i.keys.keys c.loop-i.i c.args.summary.now.counters c.loop-i.invariant
     (omega (arith, c.loop-i-test.false, c.len-i-end.ensures.len))
 
-pub returns-in_err-keys : goal.returns-in_err-keys
-returns-in_err-keys c = search rules
-
-pub returns-in_err-insert_copy : goal.returns-in_err-insert_copy
-returns-in_err-insert_copy c = search rules
+pub returns-clause-few : goal.returns-clause-few
+returns-clause-few c =
+    let counters = c.args.summary.now.counters in
+    let all = whole c.loop-i.keys.keys c.loop-i.i counters c.loop-i.invariant
+    (omega (arith, c.loop-i-test.false, c.len-i-end.ensures.len)) in
+    omega (arith, ap length all, length-keys_of counters, c.k-k.ensures.fits.few, c.k-k.ensures.fits.bounded_k)

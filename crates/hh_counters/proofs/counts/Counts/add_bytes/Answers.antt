@@ -10,7 +10,7 @@ invariant_of-self c =
     let slice = c.deref_mut.ensures in
     let item : Entry = (c.args.key.now, c.args.weight) in
     let (whole, long, within) =
-    counts-within c.counts_stay_within.ensures now.candidates (item ∷ []) now.weights.items
+    counts-within c.counts_stay_within.ensures now.candidates.now (item ∷ []) now.weights.items
     c.count_bytes.new.numbers
     now.weights.len now.total c.args.weight (sym slice.len ∙ ap length slice.value) inv.0 inv.1 (omega arith)
     (rw slice.value at c.count_bytes.ensures) in

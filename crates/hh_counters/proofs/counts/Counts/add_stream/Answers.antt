@@ -8,7 +8,7 @@ invariant_of-self c =
     let now = c.self.inside in
     let slice = c.deref_mut.ensures in
     let (whole, long, within) =
-    counts-within c.counts_stay_within.ensures now.candidates c.args.stream.now now.weights.items
+    counts-within c.counts_stay_within.ensures now.candidates.now c.args.stream.now now.weights.items
     c.count_piece.new.numbers
     now.weights.len now.total c.total.result (sym slice.len ∙ ap length slice.value) inv.0 inv.1
     (sym c.total.ensures.total) (rw (slice.value, c.items.ensures.items) at c.count_piece.ensures) in

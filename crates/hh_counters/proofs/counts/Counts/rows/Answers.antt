@@ -10,7 +10,7 @@ use Rattle.hh_counters.proofs.counts.Counts.rows.Goals.{then-weight-gt0+in_ok-pu
 pub loop-place-preserved : goal.loop-place-preserved
 loop-place-preserved c =
     let i = c.loop-place.place in
-    let ks = c.self.inside.candidates in
+    let ks = c.self.inside.candidates.now in
     let ns = c.self.inside.weights.items in
     let n = c.index-weight.result.now in
     let e = c.self.invariant.0 in
@@ -31,7 +31,7 @@ loop-place-preserved c =
 
 pub returns : goal.returns
 returns c =
-    let ks = c.self.inside.candidates in
+    let ks = c.self.inside.candidates.now in
     let ns = c.self.inside.weights.items in
     rw (← c.self.view_is) (c.loop-place.invariant
     ∙ ap (filter (exceeds 0))

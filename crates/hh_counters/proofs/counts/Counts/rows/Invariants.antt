@@ -4,4 +4,4 @@ use Rattle.hh_counters.proofs.counts.Counts.rows.Given as goal
 
 abbrev pub invariant-loop-place : goal.invariant-loop-place
 invariant-loop-place l =
-    l.rows.items ≡ filter (exceeds 0) (take l.place (zip l.self-inside.candidates l.self-inside.weights.items))
+    l.rows.items ≡ filter (exceeds 0) (take l.place (zip l.self-inside.candidates.now l.self-inside.weights.items))

@@ -7,6 +7,7 @@ use Rattle.hh_library.proofs.commands.confirm.confirm.Goals as goal
 pub returns-clause-rows : goal.returns-clause-rows
 returns-clause-rows c =
     let xs = c.args.stream.now in
+    let counts = rw c.in_ok-candidates.ensures.keys at c.in_ok-counts.ensures in
     rw c.k.ensures.k at (c.in_ok-rows_above.ensures xs
-    (c.add_stream.ensures ∙ ap (λ (n : Count). count_with n xs) c.in_ok-counts.ensures.none
+    (c.add_stream.ensures ∙ ap (λ (n : Count). count_with n xs) counts
     ∙ c.counts_follow_items.ensures (keys_of c.args.summary.now.counters) [] xs))

@@ -11,21 +11,23 @@ use Rattle.hh_library.proofs.commands.laid_out.confirm_bounded.Goals as goal
 
 pub returns-clause-rows : goal.returns-clause-rows
 returns-clause-rows g c =
+    let counted = rw c.in_ok-candidates.ensures.keys at c.in_ok-counts.ensures.counts in
     confirms_bounded (λ v. v.items) c.args.file.now (g.R.ReadRecords.known c.args.records) c.new-compared.result.refuses
     (ap (λ (n : Comparison). n.refuses) c.new-compared.ensures) c.args.decimals c.confirmed_text.new.compared.outside
-    c.in_ok-summary.summary c.in_ok-summary.ensures.summary c.in_ok-counts.counts c.in_ok-counts.ensures.counts
+    c.in_ok-summary.summary c.in_ok-summary.ensures.summary c.in_ok-counts.counts counted
     c.args.share c.in-Some.share (rw c.k.ensures.k at (sym c.share_or_least.ensures.share ∙ c.in-Some.is))
     c.rows_in_units-rows.result c.rows_in_units-rows.ensures c.confirmed_text.result c.confirmed_text.ensures.total
     c.confirmed_text.ensures.rows c.confirmed_text.ensures.bounds
 
 pub returns-clause-refused : goal.returns-clause-refused
 returns-clause-refused g c =
+    let counted = rw c.in_ok-candidates.ensures.keys at c.in_ok-counts.ensures.counts in
     let known = g.R.ReadRecords.known c.args.records in
     let asked : c.new-compared.result.refuses ≡ true = ap (λ (n : Comparison). n.refuses) c.new-compared.ensures in
     subst (λ refuses. IfErr c.confirmed_text.result (RefusedFrom c.args.file.now
     (λ s. CompareAboveRefused refuses (share_or_least c.args.share s.k) s known))) asked
     (MatchResult-weaker c.confirmed_text.result c.confirmed_text.ensures.refused (λ _ h. h)
     (rows_refused c.args.file.now known c.in_ok-summary.summary c.in_ok-summary.ensures.summary c.in_ok-counts.counts
-    c.in_ok-counts.ensures.counts c.new-compared.result.refuses c.confirmed_text.new.compared
+    counted c.new-compared.result.refuses c.confirmed_text.new.compared
     (λ s. share_or_least c.args.share s.k) c.in-Some.share
     (rw c.k.ensures.k at (sym c.share_or_least.ensures.share ∙ c.in-Some.is))))

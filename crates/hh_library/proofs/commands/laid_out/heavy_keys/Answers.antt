@@ -12,7 +12,7 @@ returns-clause-keys c =
     let (p, q) = c.args.share in
     let s = c.in_ok-summary.summary in
     let (xs, reads, is) = c.in_ok-summary.ensures.summary in
-    let (ys, again, (positive, count)) = c.in_ok-counts.ensures.counts in
+    let (ys, again, (positive, count)) = rw c.in_ok-candidates.ensures.keys at c.in_ok-counts.ensures.counts in
     let same : xs ≡ ys = read_once (stream_with c.args.layout.now (c.args.text.now ∷ [])) xs ys reads again in
     let counters : s.counters ≡ misra_gries ys c.args.k =
     ap (λ (t : SummaryView). t.counters) is ∙ ap (λ zs. misra_gries zs c.args.k) same in
@@ -23,5 +23,6 @@ returns-clause-keys c =
       ys,
       again,
       c.total.ensures.total ∙ ap (λ (n : Count). n.total) count,
-      c.in_ok-keys.ensures ys count ∙ sym (suffice.0 c.in_ok-counts.ensures.counters) ∙ suffice.1 honest c.requires.enough,
+      c.in_ok-keys.ensures ys count ∙ sym (suffice.0 c.in_ok-candidates.ensures.counters)
+          ∙ suffice.1 honest c.requires.enough,
     )

@@ -1,6 +1,6 @@
 use Rattle.std.proofs.Common.{◌∙◌, refl}
 use Rattle.std.proofs.lemmas.Simd.{splat_is_map}
-use Rattle.hh_counters.proofs.candidate_counts.CandidateCounts.new.Goals as goal
+use Rattle.hh_counters.proofs.counts.Counts.new.Goals as goal
 
 -- no items weigh nothing
 pub returns : goal.returns
