@@ -69,12 +69,12 @@ fn shortlist_of<T: Threads + Wait + Sync, S: ReadAt + Sync>(
     Ok(Shortlist::of(alloc, grown, options.n)?)
 }
 
-/// Counts `candidates` in `records`, whose shortlist is `list`. If the count has another total than
-/// the tally, the error is [`ToolError::ReadFault`].
+/// Counts `candidates` in `records`, whose tally has this `total`. If the count has another, the
+/// error is [`ToolError::ReadFault`].
 fn chosen_counts<'c, T: Threads + Wait + Sync, S: ReadAt + Sync>(
     rt: &T,
     alloc: Global,
-    list: &Shortlist,
+    total: u64,
     candidates: &'c Candidates,
     workers: u64,
     records: SourceRecords<'_, S>,
@@ -87,7 +87,7 @@ fn chosen_counts<'c, T: Threads + Wait + Sync, S: ReadAt + Sync>(
     ensures refused { IfErr result (RecordsRefused (sources_known S.bytes records.entry)) }
 {
     let counts = count_sources(rt, alloc, candidates, workers, records)?;
-    if counts.total() != list.tally().total() {
+    if counts.total() != total {
         return Err(ToolError::ReadFault);
     }
     Ok(counts)
@@ -116,7 +116,8 @@ fn top_of_list<T: Threads + Wait + Sync, S: ReadAt + Sync>(
         return Ok(list.greatest_counters(alloc)?);
     }
     let choice = list.choice(alloc, records.layout.hash)?;
-    let counts = match chosen_counts(rt, alloc, list, &choice, workers, records) {
+    let total = list.tally().total();
+    let counts = match chosen_counts(rt, alloc, total, &choice, workers, records) {
         Ok(counts) => counts,
         Err(fault) => return Err(fault),
     };

@@ -35,6 +35,7 @@ fn merge_counters(summary: &mut Summary, number: u64, other: &Summary) -> Result
         Err(SummaryFault::DifferentK) => MergeCause::DifferentK,
         Err(SummaryFault::TotalTooLarge) => MergeCause::TotalTooLarge,
         Err(SummaryFault::Memory) => return Err(ToolError::Memory),
+        // No merge answers this.
         Err(SummaryFault::BadK) => return Err(ToolError::BadK),
     };
     Err(ToolError::CannotMerge { number, cause })
@@ -60,7 +61,7 @@ fn merge_cells(table: &mut Table, number: u64, other: &Table) -> Result<(), Tool
 }
 
 /// Merges `next`, the value of the file with this `number`, into `merged`. After an error `merged`
-/// is as it was. After a refusal `merged` is as it was.
+/// is as it was.
 pub fn merge_saved(merged: &mut Saved, number: u64, next: &Saved) -> Result<(), ToolError>
     ensures merged { OnOk result (merge_saved number merged.old next.now ≡ Ok merged.new) }
     ensures refused { IfErr result (λ fault.
