@@ -114,6 +114,7 @@ fn table_readers(lab: &Lab, parts: &Family, table: &Table, a: &Key) -> Result<Sa
         table.total(),
         table.width(),
         table.estimate(a),
+        table.cell_at(0, 0),
         table.cells().len() as u64,
     ];
     lab.end();
