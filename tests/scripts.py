@@ -5,11 +5,15 @@ tests/words.txt in the pages and in the comments of the crates' code.
 
 usage: tests/scripts.py
 """
+import contextlib
+import io
 import os
 import re
 import shutil
 import subprocess
 import unittest
+from importlib.machinery import SourceFileLoader
+from importlib.util import module_from_spec, spec_from_loader
 from pathlib import Path
 
 import programs
@@ -111,6 +115,24 @@ class Scripts(programs.Checks):
             last = ended.out.splitlines()[-1]
             self.check(name, (ended.status, last) == wanted, ended)
             self.check(f"setting up: {name}", ended.out.startswith(b"set up\n") == ("CI" in env), ended.out)
+
+    def test_budget(self) -> None:
+        """What is over the budget, on a machine of any speed."""
+        loader = SourceFileLoader("budget", str(programs.TOP / ".ci" / "budget"))
+        budget = module_from_spec(spec_from_loader("budget", loader))
+        loader.exec_module(budget)
+        allowed = {(f"crate{number}", "edits"): 4.0 for number in range(20)}
+        for name, run, over, wanted in [
+            ("a machine of the budget's speed", allowed, 5.5, ["1.00 here", "81.5 of its", "over the budget: crate7, edits: 5.5 of 4.0"]),
+            ("a slow one", {part: 8.0 for part in allowed}, 11.0, ["2.00 here", "81.5 of its", "over the budget: crate7, edits: 11.0 of 8.0"]),
+            ("a slow one within it", {part: 8.0 for part in allowed}, 8.5, ["2.00 here", "80.2 of its", ""]),
+            ("a run of few parts", dict(list(allowed.items())[:8]), 11.0, ["1.00 here", "39.0 of its", "crate7, edits: 11.0 of 4.0"]),
+        ]:
+            out = io.StringIO()
+            with contextlib.redirect_stdout(out):
+                budget.tell({**run, ("crate7", "edits"): over}, allowed)
+            said = out.getvalue()
+            self.check(name, all(words in said for words in wanted) and ("over" in said) == bool(wanted[2]), said)
 
     def test_run(self) -> None:
         """What tests/run counts of what scripts print and end with."""
