@@ -1,7 +1,7 @@
 #!/usr/bin/env python3
 """Reads the repository's own shell scripts by shellcheck, and tries .ci/run, tests/run and .ci/setup by stand-ins: what they
-count, what is installed, and that a part which can't be had fails the gate where CI is set. Counts the phrases of
-tests/words.txt in the pages and in the comments of the crates' code.
+count, what is installed, and that a part which can't be had fails the gate where CI is set; and what .ci/budget finds over
+the budget. Counts the phrases of tests/words.txt in the pages and in the comments of the crates' code.
 
 usage: tests/scripts.py
 """
