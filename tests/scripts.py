@@ -122,17 +122,21 @@ class Scripts(programs.Checks):
         budget = module_from_spec(spec_from_loader("budget", loader))
         loader.exec_module(budget)
         allowed = {(f"crate{number}", "edits"): 4.0 for number in range(20)}
-        for name, run, over, wanted in [
-            ("a machine of the budget's speed", allowed, 5.5, ["1.00 here", "81.5 of its", "over the budget: crate7, edits: 5.5 of 4.0"]),
-            ("a slow one", {part: 8.0 for part in allowed}, 11.0, ["2.00 here", "81.5 of its", "over the budget: crate7, edits: 11.0 of 8.0"]),
-            ("a slow one within it", {part: 8.0 for part in allowed}, 8.5, ["2.00 here", "80.2 of its", ""]),
-            ("a run of few parts", dict(list(allowed.items())[:8]), 11.0, ["1.00 here", "39.0 of its", "crate7, edits: 11.0 of 4.0"]),
+        slow = {part: 8.0 for part in allowed}
+        few = dict(list(allowed.items())[:8])
+        for name, run, crate7, minute, total, is_over in [
+            ("a machine of the budget's speed", allowed, 5.5, "1.00", "81.5", "5.5 of 4.0"),
+            ("one of half the speed", slow, 11.0, "2.00", "81.5", "11.0 of 8.0"),
+            ("one of half the speed, within the budget", slow, 8.5, "2.00", "80.2", None),
+            ("a run of few parts", few, 11.0, "1.00", "39.0", "11.0 of 4.0"),
         ]:
+            wanted = [f"takes {minute} here, so this is {total} minutes of the budget\n"]
+            wanted += [f"over the budget: crate7, edits: {is_over}\n"] if is_over else []
             out = io.StringIO()
             with contextlib.redirect_stdout(out):
-                budget.tell({**run, ("crate7", "edits"): over}, allowed)
+                budget.tell({**run, ("crate7", "edits"): crate7}, allowed)
             said = out.getvalue()
-            self.check(name, all(words in said for words in wanted) and ("over" in said) == bool(wanted[2]), said)
+            self.check(name, said.endswith("".join(wanted)), said)
 
     def test_run(self) -> None:
         """What tests/run counts of what scripts print and end with."""
