@@ -96,7 +96,7 @@ pub struct ProgressReader<'a, R> {
 
 impl<'a, R: Read> ProgressReader<'a, R> {
     /// Reads the bytes of `inner`, `size` where that is known, whose records have this form. With
-    /// `tells`, and where there is a clock, it reports how far it is.
+    /// `shows`, and where there is a clock, it reports how far it is.
     pub fn new(
         rt: &'a HostRuntime,
         inner: R,

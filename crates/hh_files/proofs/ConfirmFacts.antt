@@ -1,5 +1,5 @@
 -- What a summary's keys, counted in files, tell.
-use Rattle.std.proofs.Common.{◌≡◌, ◌∙◌, ℕ, Bool, List, true, Some, Ok, Err, Result, Global, Vec, ap}
+use Rattle.std.proofs.Common.{◌≡◌, ◌∙◌, ℕ, Bool, List, true, Some, Ok, Err, Result, Global, Vec, ap, sym}
 use Rattle.std.specs.Prelude.{IfErr, IfOk, OnOk}
 use Rattle.std.specs.Map.{keys_of}
 use Rattle.hh_stream.specs.Ranges.{in_range}
@@ -57,9 +57,9 @@ module _ (file : List ℕ) (known : Known) (s : SummaryView) (held : HoldsSummar
       let (xs, reads, (weigh, made)) = counted in absurd (h xs made)
 
   pub confirming_refused : {A : Type 0} (refuses : Bool) (told : Comparison) (share : Share) (workers : ℕ) (t : ℕ × ℕ)
-      → threshold_of s.k share ≡ Some t → in_range workers max_workers ≡ true → (result : Result A ToolError)
+      → threshold_of s.k share ≡ Some t → true ≡ in_range workers max_workers → (result : Result A ToolError)
       → IfErr result (λ e. (xs : List Entry) → counts ≡ count_of (keys_of s.counters) xs → TextRefused refuses s xs told e)
       → IfErr result (ConfirmFilesRefused refuses share workers file known)
   confirming_refused refuses told share workers t is few (Ok x) h = tt
   confirming_refused refuses told share workers t is few (Err e) h =
-      confirming_fault refuses told share workers t is few e h
+      confirming_fault refuses told share workers t is (sym few) e h

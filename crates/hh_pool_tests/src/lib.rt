@@ -1,5 +1,5 @@
-//! The worked rows on plans, merges, passes and analyses. They are a crate of their own, since a
-//! crate with tests is proved twice.
+//! The worked rows on shared sums, plans, merges, passes and analyses. They are a crate of their own,
+//! since a crate with tests is proved twice.
 #![tactic(auto)]
 
 #[cfg(test)]
@@ -18,3 +18,5 @@ mod plans;
 mod refusals;
 #[cfg(test)]
 mod sequential;
+#[cfg(test)]
+mod sums;

@@ -4,7 +4,5 @@
 
 mod rule;
 mod sums;
-#[cfg(test)]
-mod tests;
 
 pub use sums::{MAX_CELLS, MAX_CLAIMS, SharedSums, SumSeat};

@@ -1,4 +1,4 @@
-use Rattle.std.proofs.Common.{inr}
+use Rattle.std.proofs.Common.{rules, inr}
 use Rattle.std.proofs.lemmas.Result.{err_from_is_err_and}
 use Rattle.hh_records.specs.Layouts.{records_known, texts_known}
 use Rattle.heavy_answers.proofs.AnswerLemmas.{of_records, planned, tallied}
@@ -49,3 +49,6 @@ returns-clause-made g c =
     (tallied c.args.by_plan c.if-by_plan.false (plain_written c.args.options.now c.args.rows.now
     (PrintsFileRows c.args.rows.now c.args.options.now (texts_known g.H.File.ReadAt.bytes files.layout files.files.items)) _ _
     (rw (c.records.ensures.layout, c.records.ensures.sources) at c.in_ok-report_files.ensures.reported)))
+
+pub returns-in_err-files-clause-refused : goal.returns-in_err-files-clause-refused
+returns-in_err-files-clause-refused g c = search rules

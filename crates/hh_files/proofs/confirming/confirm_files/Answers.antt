@@ -1,4 +1,4 @@
-use Rattle.std.proofs.Common.{sym}
+use Rattle.std.proofs.Common.{rules, sym}
 use Rattle.hh_pieces.specs.Sources.{sources_known}
 use Rattle.hh_commands.specs.declared.compared.Bounds.TheVariants as bounds
 use Rattle.hh_commands.proofs.BoundsFacts.{bounds_compared}
@@ -28,7 +28,7 @@ returns-clause-refused g c =
     confirming_refused _ (sources_known g.S.ReadAt.bytes c.args.records)
     c.in_ok-summary.summary c.in_ok-summary.ensures.summary c.in_ok-counts.counts counted
     c.args.compared.now.refuses c.confirmed_text.new.compared c.args.share.now c.args.workers c.in-Some.share
-    (rw c.k.ensures.k at (sym c.in-Some.ensures.threshold)) (sym c.if-not-in_range.ensures) c.confirmed_text.result
+    (rw c.k.ensures.k at (sym c.in-Some.ensures.threshold)) c.if-not-in_range.ensures c.confirmed_text.result
     c.confirmed_text.ensures.refused
 
 pub returns-clause-explained : goal.returns-clause-explained
@@ -37,3 +37,12 @@ returns-clause-explained g c =
     told_confirmed _ (sources_known g.S.ReadAt.bytes c.args.records)
     c.in_ok-summary.summary c.in_ok-summary.ensures.summary c.in_ok-counts.counts counted
     c.args.compared.now.refuses c.confirmed_text.new.compared c.confirmed_text.result c.confirmed_text.ensures.refused
+
+pub count_sources-requires-clause-workers : goal.count_sources-requires-clause-workers
+count_sources-requires-clause-workers g c = search rules
+
+pub returns-in_err-counts-clause-refused : goal.returns-in_err-counts-clause-refused
+returns-in_err-counts-clause-refused g c = search rules
+
+pub returns-clause-workers : goal.returns-clause-workers
+returns-clause-workers g c = search rules

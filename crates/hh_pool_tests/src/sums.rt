@@ -1,9 +1,9 @@
-//! The worked examples, and four threads.
+//! The worked examples of shared sums, and four threads that add to them.
 
 ghost use Rattle.std.specs.Prelude.{◌≡◌};
 ghost use Rattle.std.specs.Thread.{IsSync};
 
-use crate::{MAX_CELLS, MAX_CLAIMS, SharedSums, SumSeat};
+use hh_shared::{MAX_CELLS, MAX_CLAIMS, SharedSums, SumSeat};
 use std::alloc::AllocError;
 use std::process::Abort;
 use std::test::*;
