@@ -3,20 +3,10 @@
 ghost use Rattle.std.specs.Prelude.{◌≡◌, length};
 ghost use Rattle.hh_summaries.specs.Report.{IsShare};
 
-use crate::fixtures::{FOUR_RECORDS, assert_same, key_of, show_counter, stream_of, summary_of};
+use crate::fixtures::{assert_same, candidates_of, four_items, key_of, show_counter};
 use hh_counters::Candidates;
 use hh_stream::Stream;
 use std::process::Abort;
-
-// The candidates of the four records.
-fn candidates_of(rt: &(impl Abort + AllocGlobal)) -> Candidates
-    ensures { length result ≡ 2 }
-{
-    let summary = summary_of(rt, 2, &FOUR_RECORDS);
-    let candidates = Candidates::of(rt.alloc(), &summary).expect(rt, "candidates");
-    assert!(rt; candidates.len() == 2);
-    candidates
-}
 
 fn place_of(rt: &(impl Abort + AllocGlobal), candidates: &Candidates, letter: u8) -> Option<usize> {
     candidates.place(&key_of(rt, &[letter]))
@@ -43,7 +33,7 @@ fn weights_of(candidates: &Candidates, stream: &Stream) -> [u64; 2]
 
 #[test]
 fn candidates_are_counted(rt: HostRuntime) {
-    let stream = stream_of(&rt, &FOUR_RECORDS);
+    let stream = four_items(&rt);
     assert_same(&rt, weights_of(&candidates_of(&rt), &stream), [6, 3]);
 }
 

@@ -3,7 +3,7 @@
 ghost use Rattle.std.specs.Prelude.{◌<◌};
 
 use crate::fixtures::{
-    FOUR_RECORDS, KS, assert_same, assert_shows, key_of, shown, stream_of, summary_of,
+    FOUR_RECORDS, KS, assert_same, assert_shows, four_items, key_of, shown, summary_of,
 };
 use hh_counters::{Summary, SummaryFault};
 use hh_stream::{Item, Key, MAX_TOTAL};
@@ -38,7 +38,7 @@ fn added(rt: &(impl Abort + AllocGlobal), items: &[Item]) -> Summary {
 
 #[test]
 fn items_are_added_one_by_one(rt: HostRuntime) {
-    let stream = stream_of(&rt, &FOUR_RECORDS);
+    let stream = four_items(&rt);
     let summary = added(&rt, stream.items());
     assert_shows(&rt, &summary, "a 4 b 1 of 11, slack 2");
 }

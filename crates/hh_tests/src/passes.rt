@@ -101,8 +101,7 @@ fn second_of_both(
 fn second_of_two_pieces(rt: &(impl Abort + AllocGlobal), gate: &Meeting) -> Vec<u64> {
     let stream = four_items(rt);
     let cutting = Cutting::even(rt.alloc(), stream.len(), 2).expect(rt, "pieces");
-    let candidates = candidates_of(rt, &stream);
-    assert!(rt; candidates.len() == 2);
+    let candidates = candidates_of(rt);
     second_of_both(rt, &stream, &cutting, &candidates, gate)
 }
 

@@ -110,7 +110,7 @@ fn first_pass_is_made_sequentially(rt: HostRuntime) {
 fn second_pass_is_made_sequentially(rt: HostRuntime) {
     let stream = four_items(&rt);
     let cutting = Cutting::even(rt.alloc(), stream.len(), 2).expect(&rt, "pieces");
-    let (candidates, gate) = (candidates_of(&rt, &stream), Meeting::new(4, 0, 0, 0));
+    let (candidates, gate) = (candidates_of(&rt), Meeting::new(4, 0, 0, 0));
     let pass = second_pass_sequentially(rt.alloc(), &stream, &cutting, &candidates, &gate, 3);
     let (weights, total) = pass.expect(&rt, "a pass");
     assert_same(&rt, gate.second.heard(), (2 << 24, 0x0101));

@@ -16,8 +16,7 @@ use std::thread::Threads;
 fn counted<R: AllocGlobal + Threads + Wait + Abort + Sync>(rt: &R) -> (Vec<u64>, u64) {
     let stream = four_items(rt);
     let cutting = Cutting::even(rt.alloc(), stream.len(), 2).expect(rt, "pieces");
-    let candidates = candidates_of(rt, &stream);
-    assert!(rt; candidates.len() == 2);
+    let candidates = candidates_of(rt);
     let pieces = CutStream::new(&stream, &cutting);
     count_pieces(rt, rt.alloc(), &pieces, &candidates, 2).expect(rt, "counts")
 }

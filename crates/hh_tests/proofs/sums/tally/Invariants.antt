@@ -1,5 +1,5 @@
 use Rattle.std.proofs.Common.{◌≡◌}
-use Rattle.hh_pool_tests.proofs.sums.tally.Given as goal
+use Rattle.hh_tests.proofs.sums.tally.Given as goal
 
 abbrev pub invariant-loop-number : goal.invariant-loop-number
 invariant-loop-number l = l.seat.sums ≡ l.sums

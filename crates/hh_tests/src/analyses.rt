@@ -41,7 +41,7 @@ fn numbers_by<R: AllocGlobal + Threads + Wait + Abort + Sync>(
     rt: &R,
     plan: &[u8],
 ) -> (usize, u64, u64, u64) {
-    let stream = stream_of(rt, &[(b"a", 2), (b"b", 1), (b"c", 1)]);
+    let stream = stream_of(rt, &[(b'a', 2), (b'b', 1), (b'c', 1)]);
     let plan = Plan::parse(rt.alloc(), plan, 3).expect(rt, "a plan");
     let options = options(rt, 1, 2);
     numbers_of(rt, &analyse_stream(rt, &stream, &plan, &options, &OpenGate))
