@@ -4,31 +4,48 @@ use crate::escaped::Name;
 use hh_commands::Outside;
 use hh_faults::Totals;
 use hh_records::pointed;
+use std::alloc::Global;
+use std::fmt::{self, Display};
+
+/// A weight with `decimals` digits after its point, or `?` where there is no memory for them.
+#[derive(Clone, Copy)]
+struct Pointed {
+    alloc: Global,
+    weight: u64,
+    decimals: u8,
+}
+
+impl Display for Pointed {
+    fn fmt<W: fmt::Write>(&self, f: &mut fmt::Formatter<W>) -> fmt::Result {
+        match pointed(self.alloc, u128::from(self.weight), self.decimals) {
+            Ok(text) => text.as_slice().escape_ascii().fmt(f),
+            Err(_) => f.write_str("?"),
+        }
+    }
+}
+
+/// Gives `weight` with `decimals` digits after its point.
+fn pointed_by(rt: &HostRuntime, weight: u64, decimals: u8) -> Pointed {
+    Pointed {
+        alloc: rt.alloc(),
+        weight,
+        decimals,
+    }
+}
 
 /// Prints what the key behind the certain ones weighs at most, with `decimals` digits after the
 /// point.
 pub(crate) fn tell_next(rt: &HostRuntime, most: u64, decimals: u8) {
-    if let Ok(most) = pointed(rt.alloc(), u128::from(most), decimals) {
-        let _ = eprintln!(rt;
-            "  the next key weighs at most {}",
-            most.as_slice().escape_ascii()
-        );
-    }
+    let most = pointed_by(rt, most, decimals);
+    let _ = eprintln!(rt; "  the next key weighs at most {most}");
 }
 
 /// Prints two totals that differ, with `decimals` digits after the point.
 pub(crate) fn tell_totals(rt: &HostRuntime, name: &[u8], totals: Totals, decimals: u8) {
-    let Totals { summary, records } = totals;
-    let summary = pointed(rt.alloc(), u128::from(summary), decimals);
-    let records = pointed(rt.alloc(), u128::from(records), decimals);
-    if let (Ok(summary), Ok(records)) = (summary, records) {
-        let _ = eprintln!(rt;
-            "  {} has {}, and the records have {}",
-            Name(name),
-            summary.as_slice().escape_ascii(),
-            records.as_slice().escape_ascii()
-        );
-    }
+    let name = Name(name);
+    let summary = pointed_by(rt, totals.summary, decimals);
+    let records = pointed_by(rt, totals.records, decimals);
+    let _ = eprintln!(rt; "  {name} has {summary}, and the records have {records}");
 }
 
 /// Prints `words`, and then the bounds of a key in the file `name` and its weight in the records,
@@ -40,17 +57,11 @@ pub(crate) fn tell_outside(
     outside: &Outside,
     decimals: u8,
 ) {
-    let low = pointed(rt.alloc(), u128::from(outside.low), decimals);
-    let high = pointed(rt.alloc(), u128::from(outside.high), decimals);
-    let weight = pointed(rt.alloc(), u128::from(outside.weight), decimals);
-    if let (Ok(low), Ok(high), Ok(weight)) = (low, high, weight) {
-        let _ = eprintln!(rt;
-            "{words}{} has \"{}\" from {} to {}, and the records have {}",
-            Name(name),
-            outside.key.bytes().escape_ascii(),
-            low.as_slice().escape_ascii(),
-            high.as_slice().escape_ascii(),
-            weight.as_slice().escape_ascii()
-        );
-    }
+    let (name, key) = (Name(name), outside.key.bytes().escape_ascii());
+    let low = pointed_by(rt, outside.low, decimals);
+    let high = pointed_by(rt, outside.high, decimals);
+    let weight = pointed_by(rt, outside.weight, decimals);
+    let _ = eprintln!(rt;
+        "{words}{name} has \"{key}\" from {low} to {high}, and the records have {weight}"
+    );
 }
