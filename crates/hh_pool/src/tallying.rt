@@ -2,7 +2,7 @@
 //! pieces, and the tallies add up. Where any was lost, a second pass of a report counts the keys
 //! that can be heavy.
 
-ghost use Rattle.std.specs.Prelude.{◌≡◌, ◌+◌, ◌<◌, ◌≤◌, ◌⊎◌, true, length};
+ghost use Rattle.std.specs.Prelude.{◌≡◌, ◌+◌, ◌*◌, ◌<◌, ◌≤◌, ◌⊎◌, true, length};
 ghost use Rattle.std.specs.Prelude.{IfOk, IsErrOf, OnOk};
 ghost use Rattle.std.specs.Map.{keys_of, values_of};
 ghost use Rattle.hh_stream.specs.Ranges.{in_range};
@@ -201,6 +201,36 @@ fn weights_of<R: Threads + Wait + Sync, P: Pieces + Sync>(
     Ok(weights)
 }
 
+/// Gives the keys that weigh more than the options' threshold of the total of `tally`, which is one
+/// of all pieces, with their weights, by falling weight and then by rising key.
+fn heavy_by<R: Threads + Wait + Sync, P: Pieces + Sync>(
+    rt: &R,
+    alloc: Global,
+    pieces: &P,
+    tally: &Tally,
+    options: &Options,
+    hash: KeyHash,
+) -> Result<Vec<Heavy>, PieceFault>
+    requires some { 0 < length (P.pieces pieces.now) }
+    requires few { length (P.pieces pieces.now) ≤ max_pieces }
+    requires least_room { 2 * (options.now.k + 1) ≤ tally.now.room.few }
+    requires most_room { tally.now.room.few ≤ 2 * (max_k + 1) }
+    requires bounds { P.known pieces.now
+        → AreBounds tally.now (whole_of (P.pieces pieces.now)) }
+    ensures heavy { let xs = whole_of (P.pieces pieces.now) in
+        IfOk result (λ rows. P.known pieces.now
+        → rows.items ≡ heavy xs options.now.p options.now.q) }
+    ensures refused { IsErrOf result PieceFault.Refused → P.known pieces.now
+        → MayRefuse (P.refuses pieces.now) (P.pieces pieces.now) }
+{
+    let (p, q) = options.threshold();
+    let contenders = tally.contenders(alloc, p, q)?;
+    let candidates = Candidates::of_entries(alloc, &contenders, hash)?;
+    let workers = options.workers();
+    let weights = weights_of(rt, alloc, pieces, tally, &contenders, &candidates, workers)?;
+    Ok(candidates.select(&weights, tally.total(), p, q)?)
+}
+
 /// The total of the items of all pieces, and the keys that weigh more than the options' threshold
 /// of it, with their weights, by falling weight and then by rising key. The options' width and
 /// family are not used.
@@ -234,21 +264,8 @@ pub fn report_pieces<R: Threads + Wait + Sync, P: Pieces + Sync>(
     ensures refused { IsErrOf result PieceFault.Refused → P.known pieces.now
         → MayRefuse (P.refuses pieces.now) (P.pieces pieces.now) }
 {
-    let (p, q) = options.threshold();
     let room = Room::for_counters(options.k());
     let tally = tally_pieces(rt, alloc, pieces, room, hash, options.workers())?;
-    let contenders = tally.contenders(alloc, p, q)?;
-    let candidates = Candidates::of_entries(alloc, &contenders, hash)?;
-    let weights = weights_of(
-        rt,
-        alloc,
-        pieces,
-        &tally,
-        &contenders,
-        &candidates,
-        options.workers(),
-    )?;
-    let total = tally.total();
-    let rows = candidates.select(&weights, total, p, q)?;
-    Ok((total, rows))
+    let rows = heavy_by(rt, alloc, pieces, &tally, options, hash)?;
+    Ok((tally.total(), rows))
 }
