@@ -1,5 +1,5 @@
 #!/usr/bin/env python3
-"""Checks one small crate by bin/check, on a copy of the repository that has that crate alone: the crate, an edit that the
+"""Checks a crate of one function by bin/check, in a repository that has that crate alone: the crate, an edit that the
 prover refuses, one that it doesn't, one that can't be applied, and wrong words. And looks at what bin/try hands to
 `rt try`, by a stand-in.
 
@@ -13,11 +13,30 @@ from pathlib import Path
 
 import programs
 
-CRATE = "hh_shared"
-FUNCTION = b"fn hh_shared::sums::SharedSums::claim"
-# an edit that changes nothing of what the crate does, and one whose text stands nowhere
-HARMLESS = "file: src/sums.rt\nold: return true;\nnew: return !false;\n"
-GONE = "file: src/sums.rt\nold: no such text\nnew: another\n"
+CRATE = "small"
+FUNCTION = b"fn small::lesser"
+LESSER = """//! The lesser of two numbers.
+#![tactic(auto)]
+
+ghost use Rattle.std.specs.Prelude.{◌≡◌, ◌≤◌, ◌⊎◌};
+
+/// Gives the lesser of two numbers.
+pub fn lesser(one: u64, other: u64) -> u64
+    ensures is_least { (result ≤ one) × (result ≤ other) }
+    ensures is_one { (result ≡ one) ⊎ (result ≡ other) }
+{
+    if one < other {
+        return one;
+    }
+    other
+}
+"""
+# an edit that the clause refuses, one that changes nothing of what the crate does, and one whose text stands nowhere
+EDITS = {
+    "greater": "file: src/lib.rt\nold: return one;\nnew: return other;\n",
+    "harmless": "file: src/lib.rt\nold: if one < other\nnew: if one <= other\n",
+    "gone": "file: src/lib.rt\nold: no such text\nnew: another\n",
+}
 # A source, and what is changed in it, each with the function around it, if there is one.
 SOURCE = """use std::fmt;
 
@@ -67,11 +86,12 @@ class Check(programs.Checks):
         super().setUp()
         self.top = Path(self.room, "copy")
         shutil.copytree(programs.TOP / "bin", self.top / "bin")
-        folder = programs.TOP / "crates" / CRATE
         self.crate = self.top / "crates" / CRATE
-        shutil.copytree(folder, self.crate, ignore=shutil.ignore_patterns("out", "build.log"))
-        lines = (programs.TOP / "crates.txt").read_text().splitlines(keepends=True)
-        (self.top / "crates.txt").write_text("".join(line for line in lines if line.startswith(f"{CRATE}:")))
+        for folder in ("src", "must-fail"):
+            (self.crate / folder).mkdir(parents=True)
+        self.source = self.crate / "src" / "lib.rt"
+        self.source.write_text(LESSER)
+        (self.top / "crates.txt").write_text(f"{CRATE}:\n")
 
     def run_check(self, *words: str) -> programs.Ended:
         return programs.run([str(self.top / "bin" / "check"), *words], env=dict(os.environ))
@@ -79,27 +99,26 @@ class Check(programs.Checks):
     def test_check(self) -> None:
         """A crate is proved; the next check of it takes what that kept; a fault in a body is told with its clause."""
         ended = self.run_check(CRATE)
-        self.check("a first check", ended.status == 0 and b"heavy: hh_shared is proved, " in ended.err, ended)
+        self.check("a first check", ended.status == 0 and b"heavy: small is proved, " in ended.err, ended)
         self.check("what is proved is not listed", b"\nfn " not in ended.out, ended.out)
         self.check("it finds nothing kept", b"modules loaded=0 " in ended.out, ended.out)
         ended = self.run_check(CRATE)
         self.check("the next takes what was kept", ended.status == 0 and b" checked=0\n" in ended.out, ended)
-        for name, text in (("harmless", HARMLESS), ("gone", GONE)):
+        for name, text in EDITS.items():
             (self.crate / "must-fail" / f"{name}.edit").write_text(text)
-        ended = self.run_check(CRATE, "--edit", "claim_always_true")
-        told = b"claim_always_true.edit: refused, as it must be" in ended.err and b"1 refused, 0 not" in ended.err
+        ended = self.run_check(CRATE, "--edit", "greater")
+        told = b"greater.edit: refused, as it must be" in ended.err and b"1 refused, 0 not" in ended.err
         self.check("an edit is refused", ended.status == 0 and told, ended)
-        self.check("by a clause of its function", FUNCTION in ended.out and b"claimed_or_met" in ended.out, ended.out)
+        self.check("by a clause of its function", FUNCTION in ended.out and b"is_least" in ended.out, ended.out)
         ended = self.run_check(CRATE, "--edit", "harmless")
         self.check("one that isn't", ended.status == 1 and b"harmless.edit: NOT REFUSED" in ended.err, ended)
         ended = self.run_check(CRATE, "--edit", "gone")
         self.check("one that can't be applied", ended.status == 1 and b"0 times, and not once" in ended.err, ended)
         ended = self.run_check(CRATE)
         self.check("edits leave the crate's work", ended.status == 0 and b" checked=0\n" in ended.out, ended)
-        source = self.crate / "src" / "sums.rt"
-        source.write_text(source.read_text().replace("return true;", "return false;"))
-        ended = self.run_check(CRATE, "--only", "hh_shared::sums::SharedSums::claim")
-        told = FUNCTION in ended.out and b"claimed_or_met" in ended.out
+        self.source.write_text(LESSER.replace("return one;", "return other;"))
+        ended = self.run_check(CRATE, "--only", "small::lesser")
+        told = FUNCTION in ended.out and b"is_least" in ended.out
         self.check("a fault is told", ended.status == 1 and told and b"is NOT proved" in ended.err, ended)
 
     @unittest.skipUnless(shutil.which("git"), "what the last commit has wants git")

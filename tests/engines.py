@@ -10,6 +10,7 @@ usage: tests/engines.py [SEED]
 Where an engine isn't installed its test is skipped.
 """
 import contextlib
+import functools
 import glob
 import itertools
 import json
@@ -500,6 +501,13 @@ def try_tables(test: programs.Checks, dask: Dask) -> None:
         test.check(f"Dask: {words} are refused", gave(ended) == (2, b"") and told in ended.stderr, ended)
 
 
+def try_two_workers(test: programs.Checks, dask: Dask) -> None:
+    """The cases in which no worker is lost. The last one leaves a part that no worker can read."""
+    with dask.two_workers():
+        for case in (try_faults, try_tables, try_places):
+            tried(test, dask.room, case.__name__, functools.partial(case, test, dask))
+
+
 def try_alone(test: programs.Checks, python: str, room: Room) -> None:
     """The example without a scheduler."""
     ended = room.run([python, EXAMPLES / "over_dask.py", str(K), *room.parts, room.fed])
@@ -535,18 +543,12 @@ def try_dask(test: programs.Checks, python: str, room: Room) -> None:
         tried(test, room, f"{kind}{number}", lambda: try_collection(test, python, room, kind, number))
     dask = Dask(python, room)
 
-    def on_two_workers(case: Callable[[programs.Checks, Dask], None]) -> None:
-        with dask.two_workers():
-            case(test, dask)
-
     try:
         tried(test, room, "Dask's scheduler", dask.wait)
         if dask.address:
             tried(test, room, "a worker killed in the first pass", lambda: kill_a_worker(test, dask, 1))
             tried(test, room, "a worker killed in the second pass", lambda: kill_a_worker(test, dask, 2))
-            tried(test, room, "faults over Dask", lambda: on_two_workers(try_faults))
-            tried(test, room, "places over Dask", lambda: on_two_workers(try_places))
-            tried(test, room, "options over Dask", lambda: on_two_workers(try_tables))
+            tried(test, room, "two workers", lambda: try_two_workers(test, dask))
     finally:
         stop([dask.scheduler])
 
