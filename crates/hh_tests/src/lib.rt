@@ -1,6 +1,6 @@
-//! The worked rows on keys, streams and cuttings, on summaries, tallies, monitors and candidates, on
-//! tables and shared sums, and on plans, merges, passes and analyses. They are a crate of their own,
-//! since a crate with tests is proved twice.
+//! The worked rows on keys, streams and cuttings, on summaries, tallies, monitors and candidates,
+//! on tables and shared sums, and on plans, merges, passes and analyses. They are a crate of their
+//! own, since a crate with tests is proved twice.
 #![tactic(auto)]
 
 #[cfg(test)]
