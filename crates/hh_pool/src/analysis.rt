@@ -197,11 +197,7 @@ fn merge_pieces<R: Threads + Wait + Sync, P: Pieces + Sync, G: Gate + Sync>(
 
 /// Refuses another total than the first pass had, where anything was counted. Only pieces that
 /// changed between the passes come to this.
-pub(crate) fn check_totals(
-    candidates: &Candidates,
-    counted: u64,
-    total: u64,
-) -> Result<(), PieceFault>
+fn check_totals(candidates: &Candidates, counted: u64, total: u64) -> Result<(), PieceFault>
     ensures same { OnOk result (0 < length candidates.now → counted ≡ total) }
     ensures differs { IsErr result → (0 < length candidates.now) × (counted ≢ total) }
     ensures refused { IsErr result → result ≡ Err PieceFault.Refused }
@@ -214,7 +210,7 @@ pub(crate) fn check_totals(
 
 /// Those of the candidates that are above the options' threshold, by a second pass. The total is
 /// that of the first.
-fn heavy_among<R: Threads + Wait + Sync, P: Pieces + Sync, G: Gate + Sync>(
+pub(crate) fn heavy_among<R: Threads + Wait + Sync, P: Pieces + Sync, G: Gate + Sync>(
     rt: &R,
     alloc: Global,
     pieces: &P,

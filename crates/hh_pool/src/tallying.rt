@@ -2,21 +2,21 @@
 //! pieces, and the tallies add up. Where any was lost, a second pass of a report counts the keys
 //! that can be heavy.
 
-ghost use Rattle.std.specs.Prelude.{◌≡◌, ◌+◌, ◌*◌, ◌<◌, ◌≤◌, ◌⊎◌, true, length};
-ghost use Rattle.std.specs.Prelude.{IfOk, IsErrOf, OnOk};
+ghost use Rattle.std.specs.Prelude.{◌≡◌, ◌+◌, ◌*◌, ◌<◌, ◌≤◌, ◌⊎◌, true, length, zip};
+ghost use Rattle.std.specs.Prelude.{IfOk, IsErr, IsErrOf, OnOk};
 ghost use Rattle.std.specs.Map.{keys_of, values_of};
 ghost use Rattle.hh_stream.specs.Ranges.{in_range};
 ghost use Rattle.hh_stream.specs.Weights.{max_total, total_of};
 ghost use Rattle.hh_stream.specs.Cuttings.{max_pieces, whole_of};
 ghost use Rattle.hh_summaries.specs.Counters.{max_k};
-ghost use Rattle.hh_summaries.specs.Report.{heavy, weights_at};
+ghost use Rattle.hh_summaries.specs.Report.{heavy, rows_above};
 ghost use Rattle.hh_tally.specs.Tallies.{AreBounds, IsRoom};
 ghost use Rattle.hh_pool.specs.Passes.{AreRead, MayRefuse};
 ghost use Rattle.hh_pool.specs.Tallied.{BoundsSome, IsTallied};
 ghost use Rattle.hh_workers.specs.Pieces.{piece_of};
 ghost use Rattle.hh_workers.specs.Workers.{max_workers};
 
-use crate::analysis::{check_totals, weigh};
+use crate::analysis::heavy_among;
 use crate::first::sum_of_totals;
 use crate::options::Options;
 use hh_counters::{Candidates, Heavy};
@@ -28,6 +28,20 @@ use hh_workers::{Gate, OpenGate, Pass, Pieces, found_or_made, share_work};
 use std::alloc::{AllocError, Global};
 use std::sync::Wait;
 use std::thread::Threads;
+
+/// Refuses two tallies that can't be merged. All tallies of a pass have one room.
+fn check_tallies(one: &Tally, other: &Tally) -> Result<(), PieceFault>
+    ensures room { OnOk result (one.now.room ≡ other.now.room) }
+    ensures fits { OnOk result (one.now.total + other.now.total ≤ max_total) }
+    ensures refused { IsErr result → one.now.room ≡ other.now.room
+        → max_total < one.now.total + other.now.total }
+{
+    if !one.has_room_of(other) {
+        return Err(PieceFault::Refused);
+    }
+    sum_of_totals(one.total(), other.total())?;
+    Ok(())
+}
 
 /// The pass in which each worker tallies the items of the pieces that it claims.
 #[derive(Drop)]
@@ -106,11 +120,7 @@ impl<'a, P: Pieces, G: Gate> Pass for TallyPass<'a, P, G> {
 
     fn merge(&self, one: Tally, other: Tally) -> Result<Tally, PieceFault> {
         tallies_bound_weights();
-        // All tallies have one room.
-        if !one.has_room_of(&other) {
-            return Err(PieceFault::Refused);
-        }
-        sum_of_totals(one.total(), other.total())?;
+        check_tallies(&one, &other)?;
         let both = one.merge(self.alloc, &other)?;
         Ok(both)
     }
@@ -164,41 +174,21 @@ fn counters_of(alloc: Global, contenders: &[(Key, u64)]) -> Result<Vec<u64>, All
     contenders.iter().map(|entry| entry.1).collect(alloc)
 }
 
-/// Gives the weight of each of the `contenders`, which are the `candidates` with their counters, in
-/// the items of all pieces: the counter if `tally` lost nothing, else what a second pass counts. If
-/// that finds another total than the first pass, the error is [`PieceFault::Refused`].
-fn weights_of<R: Threads + Wait + Sync, P: Pieces + Sync>(
-    rt: &R,
+/// Gives the `candidates` whose counters are above the options' threshold of `total`, by falling
+/// counter and then by rising key. They are the keys of the `contenders`.
+fn rows_by_counters(
     alloc: Global,
-    pieces: &P,
-    tally: &Tally,
     contenders: &[(Key, u64)],
     candidates: &Candidates,
-    workers: u64,
-) -> Result<Vec<u64>, PieceFault>
-    requires some { 0 < length (P.pieces pieces.now) }
-    requires few { length (P.pieces pieces.now) ≤ max_pieces }
-    requires workers { in_range workers max_workers ≡ true }
-    requires keys { candidates.now ≡ keys_of contenders.now }
-    requires few_keys { length candidates.now ≤ max_k }
-    requires total { P.known pieces.now
-        → tally.now.total ≡ total_of (whole_of (P.pieces pieces.now)) }
-    requires exact { P.known pieces.now → tally.now.lost ≡ 0
-        → values_of contenders.now
-        ≡ weights_at (keys_of contenders.now) (whole_of (P.pieces pieces.now)) }
-    ensures count { IfOk result (λ weights. length weights.items ≡ length candidates.now) }
-    ensures weights { IfOk result (λ weights.
-        P.known pieces.now
-        → weights.items ≡ weights_at candidates.now (whole_of (P.pieces pieces.now))) }
-    ensures refused { IsErrOf result PieceFault.Refused → P.known pieces.now
-        → MayRefuse (P.refuses pieces.now) (P.pieces pieces.now) }
+    total: u64,
+    options: &Options,
+) -> Result<Vec<Heavy>, AllocError>
+    requires { candidates.now ≡ keys_of contenders.now }
+    ensures { let options = options.now in IfOk result (λ rows. rows.items
+        ≡ rows_above options.p options.q total (zip candidates.now (values_of contenders.now))) }
 {
-    if tally.is_exact() {
-        return Ok(counters_of(alloc, contenders)?);
-    }
-    let (weights, counted) = weigh(rt, alloc, pieces, &OpenGate, candidates, workers)?;
-    check_totals(candidates, counted, tally.total())?;
-    Ok(weights)
+    let (p, q) = options.threshold();
+    candidates.select(&counters_of(alloc, contenders)?, total, p, q)
 }
 
 /// Gives the keys that weigh more than the options' threshold of the total of `tally`, which is one
@@ -226,9 +216,11 @@ fn heavy_by<R: Threads + Wait + Sync, P: Pieces + Sync>(
     let (p, q) = options.threshold();
     let contenders = tally.contenders(alloc, p, q)?;
     let candidates = Candidates::of_entries(alloc, &contenders, hash)?;
-    let workers = options.workers();
-    let weights = weights_of(rt, alloc, pieces, tally, &contenders, &candidates, workers)?;
-    Ok(candidates.select(&weights, tally.total(), p, q)?)
+    let total = tally.total();
+    if tally.is_exact() {
+        return Ok(rows_by_counters(alloc, &contenders, &candidates, total, options)?);
+    }
+    heavy_among(rt, alloc, pieces, &OpenGate, &candidates, total, options)
 }
 
 /// The total of the items of all pieces, and the keys that weigh more than the options' threshold

@@ -1,14 +1,14 @@
-use Rattle.std.proofs.Common.{◌≡◌, ◌∙◌, ap, arith, rules, IsErr}
+use Rattle.std.proofs.Common.{◌≡◌, ◌∙◌, ap, arith, rules, sym, IsErr}
 use Rattle.hh_tally.specs.Tallies.{TallyView, merged_tally}
 use Rattle.hh_pool.proofs.TallyFacts.{some_joined, tally_joined}
 use Rattle.hh_pool.proofs.Tried.{taken_too_much}
 use Rattle.hh_pool.proofs.tallying.TallyPassPass.merge.Goals as goal
 
-pub returns-in_err-sum_of_totals-clause-refused : goal.returns-in_err-sum_of_totals-clause-refused
-returns-in_err-sum_of_totals-clause-refused g c is a b apart p q known =
-    let refused : IsErr c.sum_of_totals.result = search rules in
+pub returns-in_err-check_tallies-clause-refused : goal.returns-in_err-check_tallies-clause-refused
+returns-in_err-check_tallies-clause-refused g c is a b apart p q known =
+    let refused : IsErr c.check_tallies.result = search rules in
     taken_too_much _ _ _ _ _ _ _ (p.2 known).taken (q.2 known).taken apart
-    (omega (arith, c.sum_of_totals.ensures.refused refused, c.total.ensures.total, c.total-2.ensures.total))
+    (c.check_tallies.ensures.refused refused (p.0 ∙ sym q.0))
 
 pub returns-clause-both : goal.returns-clause-both
 returns-clause-both g c a b apart p q =
@@ -22,10 +22,7 @@ returns-clause-both g c a b apart p q =
           (omega (
             arith,
             ap (λ (t : TallyView). t.total) is,
-            c.in_ok-sum_of_totals.ensures.sum,
-            c.in_ok-sum_of_totals.ensures.within,
-            c.total.ensures.total,
-            c.total-2.ensures.total,
+            c.in_ok-check_tallies.ensures.fits,
           ))
           apart (p.2 known) (q.2 known),
     )
