@@ -1,8 +1,9 @@
 //! The greatest keys of files, which workers read in pieces, up to three times.
 
-ghost use Rattle.std.specs.Prelude.{◌≡◌, ◌≤◌, All, length, true, IfOk, IfErr, OnOk};
+ghost use Rattle.std.specs.Prelude.{◌≡◌, ◌+◌, ◌*◌, ◌≤◌, All, length, true, IfOk, IfErr, OnOk};
 ghost use Rattle.hh_stream.specs.Ranges.{in_range};
 ghost use Rattle.hh_summaries.specs.Counters.{max_k};
+ghost use Rattle.hh_tally.specs.Tallies.{IsRoom};
 ghost use Rattle.hh_workers.specs.Workers.{max_workers};
 ghost use Rattle.hh_pieces.specs.Sources.{sources_known};
 ghost use Rattle.hh_records.specs.Refusals.{RecordsRefused};
@@ -36,6 +37,27 @@ pub struct TopOptions {
     pub memory: u64,
 }
 
+/// The shortlist of a tally of `records` with this `room`.
+fn shortlist_by<T: Threads + Wait + Sync, S: ReadAt + Sync>(
+    rt: &T,
+    alloc: Global,
+    options: &TopOptions,
+    room: Room,
+    records: SourceRecords<'_, S>,
+) -> Result<Shortlist, ToolError>
+    requires workers { in_range options.now.workers max_workers ≡ true }
+    requires room { IsRoom room }
+    requires enough { 2 * (max_k + 1) ≤ room.few }
+    ensures n { IfOk result (λ list. list.n ≡ options.now.n) }
+    ensures tally { IfOk result (λ list. TalliesRecords list.tally.room
+        (sources_known S.bytes records.entry) list.tally) }
+    ensures still { OnOk result (All S.still records.entry.sources.now) }
+    ensures refused { IfErr result (RecordsRefused (sources_known S.bytes records.entry)) }
+{
+    let tally = tally_of_sources(rt, alloc, room, options.workers, records)?;
+    Ok(Shortlist::of(alloc, tally, options.n)?)
+}
+
 /// The shortlist of a tally of `records`: one that tells their greatest keys, or the best for which
 /// there is memory. They are tallied with room for the most counters of a summary first. Where that
 /// doesn't do, and there is memory for more, they are tallied again. If two readings have different
@@ -55,18 +77,17 @@ fn shortlist_of<T: Threads + Wait + Sync, S: ReadAt + Sync>(
 {
     let first = Room::for_counters(MAX_K);
     let room = Room::for_memory(options.memory / options.workers);
-    let tally = tally_of_sources(rt, alloc, first, options.workers, records)?;
-    let list = Shortlist::of(alloc, tally, options.n)?;
+    let list = shortlist_by(rt, alloc, options, first, records)?;
     if room.keys <= first.keys || list.tally().is_exact() || list.stands_out() {
         return Ok(list);
     }
     let total = list.tally().total();
     drop(list);
-    let grown = tally_of_sources(rt, alloc, room, options.workers, records)?;
-    if grown.total() != total {
+    let grown = shortlist_by(rt, alloc, options, room, records)?;
+    if grown.tally().total() != total {
         return Err(ToolError::ReadFault);
     }
-    Ok(Shortlist::of(alloc, grown, options.n)?)
+    Ok(grown)
 }
 
 /// Counts `candidates` in `records`, whose tally has this `total`. If the count has another, the
