@@ -192,7 +192,8 @@ fn rows_by_counters(
 }
 
 /// Gives the keys that weigh more than the options' threshold of the total of `tally`, which is one
-/// of all pieces, with their weights, by falling weight and then by rising key.
+/// of all pieces, with their weights, by falling weight and then by rising key. If `tally` lost
+/// nothing, its counters are the weights. Else a second pass counts them.
 fn heavy_by<R: Threads + Wait + Sync, P: Pieces + Sync>(
     rt: &R,
     alloc: Global,
