@@ -1,11 +1,14 @@
 -- What the program's command line makes of words.
-use Rattle.std.proofs.Common.{◌≡◌, ◌∙◌, ℕ, Bool, true, false, List, map, IfErr, Option, Result, Ok, Err, Some, None, ap, sym, refl, subst}
+use Rattle.std.proofs.Common.{◌≡◌, ◌≢◌, ◌∙◌, ℕ, Bool, true, false, List, map, IfErr, Option, Result, Ok, Err, Some, None, inl, inr, ap, sym, refl, subst}
 use Rattle.std.specs.Option.{option_map}
-use Rattle.clap.specs.Words.{App, HasMatchesOf, Text, is_simple, subcommand_of, subcommand_rows_of, takes}
+use Rattle.clap.specs.Words.{App, HasKind, HasMatchesOf, IsAmong, Kinds, Text, fault_of, is_simple, is_simple_and_free, kind_of}
+use Rattle.clap.specs.Words.{subcommand_of, subcommand_rows_of, takes}
+use Rattle.clap.specs.declared.error.Error.{Error}
+use Rattle.clap.specs.declared.error.kind.ErrorKind.TheVariants.{OutOfMemory}
 use Rattle.clap.specs.declared.parser.matches.ArgMatches.{ArgMatches}
 use Rattle.heavy_arguments.specs.CommandLine.{IsProgram}
 use Rattle.heavy_host.specs.Words.{AreAllWords, word_of}
-use Rattle.heavy_requests.specs.Request.{MayRefuse, MayRefuseFrom}
+use Rattle.heavy_requests.specs.Request.{IsRefusedBy, MayRefuse, MayRefuseFrom}
 use Rattle.heavy_requests.specs.declared.request.UsageError.{UsageError}
 use Rattle.heavy_requests.specs.declared.request.UsageError.TheVariants as usage
 
@@ -41,12 +44,28 @@ not_true : (b : Bool) → (b ≡ true → ⊥) → b ≡ false
 not_true true isnt = absurd (isnt refl)
 not_true false isnt = refl
 
--- words are refused so where only memory refuses those that the command line takes
-pub may_refuse : (words : List (List ℕ)) (program : App) (texts : List Text) (fault : UsageError) → IsProgram program
-    → map word_of texts ≡ words → (takes program texts ≡ true → fault ≡ usage.Memory) → MayRefuse words fault
-may_refuse words program texts usage.Memory it spelled only = tt
-may_refuse words program texts (usage.Reported report) it spelled only =
-    (program, it, texts, spelled, not_true (takes program texts) (λ yes. let same = only yes in cc))
+-- `clap` says exactly with which kind it refuses words by the program's command line
+program_is_free : (app : App) → IsProgram app → is_simple_and_free app ≡ true
+program_is_free app it = subst (λ (a : App). is_simple_and_free a ≡ true) (sym it.is) refl
+
+-- memory is not the reason, so that the kind is among those that `clap` names
+among_named : (kinds : Kinds) (e : Error) → HasKind kinds e → kind_of e ≢ OutOfMemory → IsAmong (kind_of e) kinds
+among_named kinds e (inl memory) isnt = absurd (isnt memory)
+among_named kinds e (inr among) isnt = among
+
+-- words are refused for the reason that `clap` gives, where it isn't memory
+pub refused_by : (words : List (List ℕ)) (program : App) (texts : List Text) (e : Error) → IsProgram program
+    → map word_of texts ≡ words → (takes program texts ≡ true → kind_of e ≡ OutOfMemory)
+    → (is_simple_and_free program ≡ true → HasKind (fault_of program texts) e) → kind_of e ≢ OutOfMemory
+    → IsRefusedBy words (kind_of e)
+refused_by words program texts e it spelled only has isnt = record {
+  program = program;
+  is_program = it;
+  texts = texts;
+  spelled = spelled;
+  not_taken = not_true (takes program texts) (λ yes. isnt (only yes));
+  among = among_named (fault_of program texts) e (has (program_is_free program it)) isnt;
+}
 
 -- words that are refused so are refused so as those of their source
 pub refused_from : {T : Type 0} (gives : ℕ → Option (List ℕ) → Type 0) (words : List (List ℕ)) (r : Result T UsageError)

@@ -1,11 +1,13 @@
 -- What a command line asks for, by what the program's own command line finds in it.
-use Rattle.std.specs.Prelude.{ℕ, ◌≡◌, ◌≢◌, ◌<◌, ◌^◌, ◌==◌, ◌||◌, Bool, is_some, ⊤, true, false, List, [], Option, Some, None, codes, map, drop, option_map, unwrap_or, if◌then◌else◌}
+use Rattle.std.specs.Prelude.{ℕ, ◌≡◌, ◌≢◌, ◌⊎◌, ◌<◌, ◌-◌, ◌^◌, ◌==◌, ◌&&◌, ◌||◌, Bool, is_none, is_some, ⊤, true, false, not, List, [], Option, Some, None, bytes_eq, codes, length, map, drop, option_map, slice_index_or, unwrap_or, if◌then◌else◌}
 use Rattle.std.specs.List.{flat_map, list_any, slice_split}
 use Rattle.std.specs.Str.Parse.{IsNumeral, without_leading_plus}
-use Rattle.clap.specs.Words.{App, Text, first_value, matched_of, one_text, raw_values, rows_of, subcommand_of, takes}
+use Rattle.clap.specs.Words.{App, IsAmong, Text, fault_of, first_value, kind_of, matched_of, one_text, raw_values, rows_of, subcommand_of, takes}
+use Rattle.clap.specs.declared.error.kind.ErrorKind.{ErrorKind}
 use Rattle.clap.specs.declared.parser.matches.Found.{Found}
 use Rattle.hh_records.specs.declared.format.Format.{Format}
 use Rattle.hh_records.specs.declared.format.Format.TheVariants as format
+use Rattle.hh_records.specs.declared.layout_words.LayoutWords.{LayoutWords}
 use Rattle.hh_rows.specs.declared.report_options.ReportOptions.{ReportOptions}
 use Rattle.hh_rows.specs.declared.report_options.Tree.{Tree}
 use Rattle.hh_rows.specs.declared.report_options.Tree.TheVariants as shape
@@ -211,6 +213,25 @@ AsksFor name found (Report options rows by_plan) =
     IsReportName name × AreOptions found options × AreRowOptions found rows × (by_plan ≡ asks_plan found)
 AsksFor name found (Answer command) = Answers name found command
 
+-- whether records are written as CSV has it
+abbrev pub is_csv : Format → Bool
+is_csv format.Csv = true
+is_csv format.Unquoted = false
+is_csv format.Squeezed = false
+is_csv format.Lines = false
+is_csv format.Json = false
+
+-- whether no option of records is given
+abbrev pub is_plain_layout : LayoutWords → Bool
+is_plain_layout layout =
+    is_none layout.delimiter && not layout.has_header && length layout.key.items == 0 && is_none layout.weight
+    && length layout.until.items == 0 && is_none layout.prefix && is_csv layout.format && not layout.allow_zero
+    && is_none layout.bad_as && layout.decimals == 0
+
+-- whether no file of records and no option of them is given
+abbrev pub are_plain : RecordWords → Bool
+are_plain words = length words.files.items == 0 && is_plain_layout words.layout
+
 -- how many megabytes of a pipe the command with a name keeps in memory
 pub record IsMemoryOf (name : Text) (found : Found) (memory : ℕ) : Type 0 where
   pub top : name ≡ codes "top" → IsNumberOf found (codes "memory") 256 memory
@@ -234,11 +255,30 @@ pub record IsAskedBy (words : List (List ℕ)) (asked : Invocation) : Type 0 whe
   pub output : IsOutput found asked.output
   pub memory : IsMemoryOf name found asked.memory
 
--- these words may be refused so: the program's command line doesn't take their texts, or memory was refused
+-- whether words, the first of which is the program's name, ask its command `help` for help, which `clap` doesn't know
+abbrev pub asks_help_for_help : List (List ℕ) → Bool
+asks_help_for_help words =
+    let last = slice_index_or words (length words - 1) [] in
+    bytes_eq (slice_index_or words 1 []) (codes "help") && (bytes_eq last (codes "--help") || bytes_eq last (codes "-h"))
+
+-- the program's command line doesn't take the texts of these words, and this is why
+pub record IsRefusedBy (words : List (List ℕ)) (why : ErrorKind) : Type 0 where
+  pub program : App
+  pub is_program : IsProgram program
+  pub texts : List Text
+  pub spelled : map word_of texts ≡ words
+  pub not_taken : takes program texts ≡ false
+  pub among : IsAmong why (fault_of program texts)
+
+-- what is said of words that are refused for this reason: that one or, of words that ask `help` for help, why the same words
+-- without the program's name are refused
+abbrev pub IsSaidOf : List (List ℕ) → ErrorKind → ErrorKind → Type 0
+IsSaidOf words why said = (said ≡ why) ⊎ ((asks_help_for_help words ≡ true) × IsRefusedBy (drop 1 words) said)
+
+-- these words may be refused so: memory was refused, or the program's command line refuses them for a reason of which this is said
 abbrev pub MayRefuse : List (List ℕ) → UsageError → Type 0
 MayRefuse words usage.Memory = ⊤
-MayRefuse words (usage.Reported report) =
-    (program : App) × IsProgram program × (texts : List Text) × (map word_of texts ≡ words) × (takes program texts ≡ false)
+MayRefuse words (usage.Reported report) = (why : ErrorKind) × IsRefusedBy words why × IsSaidOf words why (kind_of report.error)
 
 -- all words of a source may be refused so
 abbrev pub MayRefuseFrom : (ℕ → Option (List ℕ) → Type 0) → UsageError → Type 0

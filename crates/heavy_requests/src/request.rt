@@ -1,19 +1,18 @@
 //! What a command line asks for.
 
 ghost use Rattle.std.specs.Prelude.{◌≡◌, ◌++◌, [], IfErr, IfOk, OnOk, codes, map, option_map};
-ghost use Rattle.clap.specs.Words.{Text, first_value, found_of, kind_of};
+ghost use Rattle.clap.specs.Words.{Text, first_value, found_of};
 ghost use Rattle.heavy_host.specs.Words.{word_of};
 ghost use Rattle.heavy_requests.specs.Request.{AreDecimals, AreOptions, AreRecordWords};
 ghost use Rattle.heavy_requests.specs.Request.{AreRowOptions, AsksFor, GivesShare, IsAskedBy, IsFormat, IsOutput};
 ghost use Rattle.heavy_requests.specs.Request.{IsAskedFrom, IsMemoryOf, IsReportName, NamesForm};
 ghost use Rattle.heavy_requests.specs.Request.{MayRefuse, MayRefuseFrom, NamesTree, all_columns};
-ghost use Rattle.heavy_requests.specs.Request.{all_words, asks_plan, between_commas, columns_in};
+ghost use Rattle.heavy_requests.specs.Request.{all_words, are_plain, asks_plan, between_commas, columns_in};
 ghost use Rattle.heavy_requests.specs.Request.{first_word};
 
 use crate::fields::split_fields;
 use crate::usage_report::{UsageReport, usage_report_of};
-use clap::error::ErrorKind;
-use clap::{ArgMatches, Error};
+use clap::ArgMatches;
 use heavy_arguments::{
     ALLOW_ZERO, BAD_AS, DECIMALS, DELIMITER, DEPTH, EXPLAIN, GREATEST, HEADER, JSON, K, KEY, LINES,
     MEMORY, NAMES, NO_QUOTES, OUTPUT, PIECES, PREFIX, PROGRESS, RECORDS, SEED, SHARE, SQUEEZE,
@@ -62,7 +61,9 @@ pub struct RecordWords {
 
 impl RecordWords {
     /// Whether no file of records and no option of them is given.
-    pub fn are_plain(&self) -> bool {
+    pub fn are_plain(&self) -> bool
+        ensures { result ≡ are_plain self.now }
+    {
         let layout = &self.layout;
         self.files.is_empty()
             && layout.delimiter.is_none()
@@ -71,7 +72,7 @@ impl RecordWords {
             && layout.weight.is_none()
             && layout.until.is_empty()
             && layout.prefix.is_none()
-            && layout.format == Format::Csv
+            && matches!(layout.format, Format::Csv)
             && !layout.allow_zero
             && layout.bad_as.is_none()
             && layout.decimals == 0
@@ -542,19 +543,6 @@ fn memory_of(name: &str, found: &ArgMatches) -> u64
     }
 }
 
-/// Says why `words` ask for nothing, where `clap` gave this `error`.
-fn usage_error(alloc: Global, words: &[Vec<u8>], error: Error) -> UsageError
-    ensures { kind_of error ≡ ErrorKind.OutOfMemory → result ≡ UsageError.Memory }
-{
-    if matches!(error.kind(), ErrorKind::OutOfMemory) {
-        return UsageError::Memory;
-    }
-    match usage_report_of(alloc, words, error) {
-        Ok(report) => UsageError::Reported(report),
-        Err(_) => UsageError::Memory,
-    }
-}
-
 /// Reads what `words` ask for, the first of which is the program's name.
 fn request_in(alloc: Global, words: &[Vec<u8>]) -> Result<Invocation, UsageError>
     ensures asked { IfOk result (IsAskedBy (map (λ w. w.items) words.now)) }
@@ -563,7 +551,7 @@ fn request_in(alloc: Global, words: &[Vec<u8>]) -> Result<Invocation, UsageError
     let texts = texts_of(alloc, words)?;
     let matches = match command_line(alloc)?.try_get_matches_from(texts.as_slice()) {
         Ok(matches) => matches,
-        Err(error) => return Err(usage_error(alloc, words, error)),
+        Err(error) => return Err(UsageError::Reported(usage_report_of(alloc, words, error)?)),
     };
     let Some((name, found)) = matches.subcommand() else {
         unreachable!("a command is required");

@@ -1,5 +1,9 @@
 //! What is printed for a command line that asks for help, or is wrong.
 
+ghost use Rattle.std.specs.Prelude.{◌≡◌, ◌≢◌, ◌⊎◌, IfOk, map};
+ghost use Rattle.clap.specs.Words.{kind_of};
+ghost use Rattle.heavy_requests.specs.Request.{IsRefusedBy, IsSaidOf, asks_help_for_help};
+
 use clap::Error;
 use clap::error::ErrorKind;
 use heavy_arguments::command_line;
@@ -65,31 +69,45 @@ fn has_letter(words: &[Vec<u8>], letter: &[u8]) -> bool {
     false
 }
 
-/// Whether `words` ask `help` for help, which `clap` doesn't know.
-fn asks_help_for_help(words: &[Vec<u8>]) -> bool {
-    let (Some(first), Some(last)) = (words.first(), words.last()) else {
+/// Whether `words`, the first of which is the program's name, ask its command `help` for help,
+/// which `clap` doesn't know.
+fn asks_help_for_help(words: &[Vec<u8>]) -> bool
+    ensures { result ≡ asks_help_for_help (map (λ w. w.items) words.now) }
+{
+    let (Some(command), Some(last)) = (words.get(1), words.last()) else {
         return false;
     };
     let last = last.as_slice();
     let asks = last == b"--help".as_slice() || last == b"-h".as_slice();
-    asks && first.as_slice() == b"help".as_slice()
+    command.as_slice() == b"help".as_slice() && asks
 }
 
-/// Gives what `clap` says of `words`, where it gave this `error`. Help of `help` is that of the
-/// same words without it.
-fn error_of(alloc: Global, words: &[Vec<u8>], error: Error) -> Result<Error, AllocError> {
-    if !asks_help_for_help(words) {
-        return Ok(error);
-    }
+/// Gives what `clap` says of `words`, or `error` where it takes them.
+fn refusal_of(alloc: Global, words: &[Vec<u8>], error: Error) -> Result<Error, AllocError>
+    ensures { IfOk result (λ said. (kind_of said ≡ kind_of error)
+        ⊎ IsRefusedBy (map (λ w. w.items) words.now) (kind_of said)) }
+{
     let texts = texts_of(alloc, words)?;
-    let said = match command_line(alloc)?.try_get_matches_from(texts.as_slice()) {
-        Ok(_) => error,
-        Err(help) => help,
+    let refusal = match command_line(alloc)?.try_get_matches_from(texts.as_slice()) {
+        Ok(_) => return Ok(error),
+        Err(refusal) => refusal,
     };
-    if matches!(said.kind(), ErrorKind::OutOfMemory) {
+    if matches!(refusal.kind(), ErrorKind::OutOfMemory) {
         return Err(AllocError);
     }
-    Ok(said)
+    Ok(refusal)
+}
+
+/// Gives what is said of `words`, where `clap` gave this `error`. Help of `help` is that of the
+/// same words without it.
+fn error_of(alloc: Global, words: &[Vec<u8>], error: Error) -> Result<Error, AllocError>
+    ensures { IfOk result (λ said.
+        IsSaidOf (map (λ w. w.items) words.now) (kind_of error) (kind_of said)) }
+{
+    match words {
+        [_, after @ ..] if asks_help_for_help(words) => refusal_of(alloc, after, error),
+        _ => Ok(error),
+    }
 }
 
 /// Collects what is printed of `words`, the first of which is the program's name, where `clap` gave
@@ -98,16 +116,24 @@ pub fn usage_report_of(
     alloc: Global,
     words: &[Vec<u8>],
     error: Error,
-) -> Result<UsageReport, AllocError> {
+) -> Result<UsageReport, AllocError>
+    ensures memory { IfOk result (λ _. kind_of error ≢ ErrorKind.OutOfMemory) }
+    ensures said { IfOk result (λ report.
+        IsSaidOf (map (λ w. w.items) words.now) (kind_of error) (kind_of report.error)) }
+{
+    if matches!(error.kind(), ErrorKind::OutOfMemory) {
+        return Err(AllocError);
+    }
+    let is_unknown = matches!(error.kind(), ErrorKind::UnknownArgument);
+    let error = error_of(alloc, words, error)?;
     let words = words.get(1..).unwrap_or(words);
     let name = match words.first() {
         Some(name) => name.as_slice(),
         None => b"".as_slice(),
     };
     let passes = name == b"condense".as_slice() || name == b"confirm".as_slice();
-    let is_unknown = matches!(error.kind(), ErrorKind::UnknownArgument);
     Ok(UsageReport {
-        error: error_of(alloc, words, error)?,
+        error,
         explains: has_option(words, b"--explain"),
         gives_k: passes && is_unknown && (has_option(words, b"--k") || has_letter(words, b"-k")),
         takes_keys: name == b"ask".as_slice(),

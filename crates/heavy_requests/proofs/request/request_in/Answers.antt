@@ -1,12 +1,12 @@
 -- What the words' texts are taken for is what the program's command line finds in them.
-use Rattle.std.proofs.Common.{◌≡◌, ◌∙◌, true, map, subst, sym, refl}
+use Rattle.std.proofs.Common.{◌∙◌, map, subst, refl}
 use Rattle.std.proofs.lemmas.Simd.{map-map}
 use Rattle.std.specs.String.{string_bytes}
-use Rattle.clap.specs.Words.{HasMatchesOf, app_of, found_of, rows_of, takes}
+use Rattle.clap.specs.Words.{HasMatchesOf, app_of, found_of, kind_of, rows_of}
 use Rattle.clap.specs.declared.parser.matches.ArgMatches.TheViews.{out-ArgMatches, out-SubCommand}
 use Rattle.std.specs.Box.{box_value}
 use Rattle.heavy_host.specs.Words.{word_of}
-use Rattle.heavy_requests.proofs.RequestLemmas.{found_by_program, found_together, may_refuse}
+use Rattle.heavy_requests.proofs.RequestLemmas.{found_by_program, found_together, refused_by}
 use Rattle.heavy_requests.proofs.request.request_in.Goals as goal
 
 pub returns-clause-asked : goal.returns-clause-asked
@@ -36,9 +36,10 @@ returns-clause-asked c = record {
 
 pub returns-in-Err-clause-refused : goal.returns-in-Err-clause-refused
 returns-in-Err-clause-refused c =
-    let texts = c.in_ok-texts.texts.items in
-    let app = app_of c.in_ok-command_line.field-0 in
-    may_refuse _ app (map string_bytes texts) _ c.in_ok-command_line.ensures.app
-    (map-map word_of string_bytes texts ∙ c.in_ok-texts.ensures)
-    (λ yes. c.usage_error.ensures (c.in-Err.ensures.passes
-    (subst (λ items. takes app (map string_bytes items) ≡ true) (sym c.as_slice.ensures.value) yes)))
+    let spelled = map-map word_of string_bytes c.in_ok-texts.texts.items ∙ c.in_ok-texts.ensures in (
+      kind_of c.in-Err.error,
+      refused_by _ (app_of c.in_ok-command_line.field-0) (map string_bytes c.as_slice.result.now) c.in-Err.error
+          c.in_ok-command_line.ensures.app (rw c.as_slice.ensures.value spelled) c.in-Err.ensures.passes c.in-Err.ensures.kinds
+          c.in_ok-usage_report_of-in-Err.ensures.memory,
+      c.in_ok-usage_report_of-in-Err.ensures.said,
+    )
