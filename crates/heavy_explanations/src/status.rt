@@ -1,5 +1,11 @@
 //! How a run of the program ends: what it prints on standard error, and its exit status.
 
+ghost use Rattle.std.specs.Prelude.{◌≡◌, IfErr, OnOk};
+ghost use Rattle.std.specs.Process.{exit_status};
+ghost use Rattle.clap.specs.Words.{kind_of};
+ghost use Rattle.heavy_explanations.specs.Usage.{EndsUsage};
+ghost use Rattle.hh_faults.specs.Status.{status_of};
+
 use crate::comparisons::tell_outside;
 use crate::escaped::Lines;
 use crate::explain::{explain_comparison, explain_file, explain_records, names_records};
@@ -18,7 +24,9 @@ use std::process::ExitCode;
 const USAGE: u8 = 2;
 
 /// Gives the fault of an input that can't be read its `number`, where it has one.
-fn numbered(fault: ToolError, number: u64) -> ToolError {
+fn numbered(fault: ToolError, number: u64) -> ToolError
+    ensures { status_of result ≡ status_of fault }
+{
     match fault {
         ToolError::ReadFault if number > 0 => ToolError::FileFault { number },
         _ => fault,
@@ -26,7 +34,9 @@ fn numbered(fault: ToolError, number: u64) -> ToolError {
 }
 
 /// Prints `fault`, and gives its status.
-pub fn status_after(rt: &HostRuntime, fault: ToolError) -> ExitCode {
+pub fn status_after(rt: &HostRuntime, fault: ToolError) -> ExitCode
+    ensures { exit_status result ≡ status_of fault }
+{
     let _ = eprintln!(rt; "heavy: {fault}");
     ExitCode::from(fault.status())
 }
@@ -57,7 +67,9 @@ fn status_explained(
     fault: ToolError,
     asked: &Invocation,
     compared: &Comparison,
-) -> ExitCode {
+) -> ExitCode
+    ensures { exit_status result ≡ status_of fault }
+{
     let status = status_after(inputs.rt, fault);
     if asked.explains_faults(inputs.rt) || names_records(&fault, asked) {
         explain(inputs, &fault, asked, compared);
@@ -75,7 +87,9 @@ fn print_own_k(rt: &HostRuntime, report: &UsageReport) {
 /// Prints help or a fault of the command line as `clap` words it. In a fault, which may have words
 /// of the command line, control characters are escaped. Help that could not be printed is a
 /// device's fault.
-pub fn status_of_usage(rt: &HostRuntime, report: &UsageReport) -> ExitCode {
+pub fn status_of_usage(rt: &HostRuntime, report: &UsageReport) -> ExitCode
+    ensures { EndsUsage (kind_of report.now.error) (exit_status result) }
+{
     if report.error.exit_code() == 0 {
         return match report.error.print(rt) {
             Ok(()) => ExitCode::SUCCESS,
@@ -126,7 +140,10 @@ pub fn status_of(
     outcome: Result<(), ToolError>,
     compared: &Comparison,
     rows: u64,
-) -> ExitCode {
+) -> ExitCode
+    ensures done { OnOk outcome (exit_status result ≡ 0) }
+    ensures refused { IfErr outcome (λ fault. exit_status result ≡ status_of fault) }
+{
     match outcome {
         Ok(()) => {
             inputs.look(asked);
