@@ -1,6 +1,6 @@
 -- What answers a request, by the bytes that are given of the files that it names.
 use Rattle.std.specs.Io.KnownBytes.{Appends}
-use Rattle.std.specs.Prelude.{ℕ, ◌≡◌, ◌⊎◌, Bool, true, false, List, ◌∷◌, Option, Some, None, Ok, map}
+use Rattle.std.specs.Prelude.{ℕ, ◌≡◌, ◌⊎◌, Bool, true, false, not, List, ◌∷◌, Option, Some, None, Ok, map}
 use Rattle.hh_summaries.specs.Counters.{sketch_of}
 use Rattle.hh_countmin.specs.Family.{drawn_family}
 use Rattle.hh_countmin.specs.Table.{table_of}
@@ -31,6 +31,7 @@ use Rattle.hh_files.specs.ReportFiles.{PrintsFileRows}
 use Rattle.hh_files.specs.SummaryFiles.{SavesSummary}
 use Rattle.hh_files.specs.TopFiles.{PrintsTop}
 use Rattle.heavy_host.specs.Files.{AreRead}
+use Rattle.heavy_requests.specs.Request.{are_plain}
 use Rattle.heavy_requests.specs.declared.request.Command.{Command}
 use Rattle.heavy_requests.specs.declared.request.Command.TheVariants.{Top, Summarise, Table, Merge, Ask, List as ListKeys, Describe, Condense, Confirm}
 use Rattle.heavy_requests.specs.declared.request.Invocation.{Invocation}
@@ -148,8 +149,12 @@ AnswersRequest gives opens output (Answer command) words refuses outside old new
     (bytes : List ℕ) × AnswersCommand gives opens command words refuses outside bytes
     × Appends old new (bytes_in output (columns_of command) bytes)
 
+-- whether a key whose weight contradicts a saved summary refuses the records: all but plain ones on standard input
+abbrev pub refuses_contradictions : RecordWords → Bool
+refuses_contradictions words = not (are_plain words)
+
 -- what was asked for on the command line was answered so
 abbrev pub IsAnswered : (List ℕ → Option (List ℕ) → Type 0) → (Bool → List ℕ → Option (List ℕ) → Type 0) → Invocation
-    → Bool → Option Outside → Option (List ℕ) → Option (List ℕ) → Type 0
-IsAnswered gives opens asked refuses outside old new =
-    AnswersRequest gives opens asked.output asked.request asked.records refuses outside old new
+    → Option Outside → Option (List ℕ) → Option (List ℕ) → Type 0
+IsAnswered gives opens asked outside old new =
+    AnswersRequest gives opens asked.output asked.request asked.records (refuses_contradictions asked.records) outside old new

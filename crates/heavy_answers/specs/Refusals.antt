@@ -36,7 +36,7 @@ use Rattle.heavy_requests.specs.declared.request.Invocation.{Invocation}
 use Rattle.heavy_requests.specs.declared.request.RecordWords.{RecordWords}
 use Rattle.heavy_requests.specs.declared.request.Request.{Request}
 use Rattle.heavy_requests.specs.declared.request.Request.TheVariants.{Report, Answer}
-use Rattle.heavy_answers.specs.Answers.{AnswersCommand, ByPlan, OfRecords, columns_of}
+use Rattle.heavy_answers.specs.Answers.{AnswersCommand, ByPlan, OfRecords, columns_of, refuses_contradictions}
 use Rattle.heavy_answers.specs.Columns.{InForm, bytes_in}
 use Rattle.heavy_answers.specs.Inputs.{AreRecords, standard_name}
 use Rattle.heavy_answers.specs.declared.single_pass.SinglePass.{SinglePass}
@@ -199,9 +199,9 @@ RequestRefused gives opens unopened output (Answer command) words refuses outsid
 
 -- what was asked for on the command line is refused so
 abbrev pub IsRefused : (List ℕ → Option (List ℕ) → Type 0) → (Bool → List ℕ → Option (List ℕ) → Type 0)
-    → (List ℕ → ℕ → ToolError → Type 0) → Invocation → Bool → Option Outside → Option (List ℕ) → Option (List ℕ) → ToolError → Type 0
-IsRefused gives opens unopened asked refuses outside old new e =
-    RequestRefused gives opens unopened asked.output asked.request asked.records refuses outside old new e
+    → (List ℕ → ℕ → ToolError → Type 0) → Invocation → Option Outside → Option (List ℕ) → Option (List ℕ) → ToolError → Type 0
+IsRefused gives opens unopened asked outside old new e =
+    RequestRefused gives opens unopened asked.output asked.request asked.records (refuses_contradictions asked.records) outside old new e
 
 -- the fault of rows that could not be kept in memory, and any other as it is
 abbrev pub kept_fault : ToolError → ToolError

@@ -236,8 +236,9 @@ fn converted_report<T: Threads + Wait + Sync, H: Host, S: Sink>(
 
 /// Answers the command line `asked`: reads the files that it names from `host`, calls the library
 /// and writes the output to `sink`. It stores in `compared` where a saved summary and the records
-/// differ. Nothing is written before the whole answer is known, so that only a failed write leaves
-/// a part of the output in `sink`.
+/// differ. A key outside its bounds refuses the records, but for plain ones on standard input.
+/// Nothing is written before the whole answer is known, so that only a failed write leaves a part
+/// of the output in `sink`.
 pub fn answer<T: Threads + Wait + Sync, H: Host, S: Sink>(
     threads: &T,
     host: &H,
@@ -247,12 +248,13 @@ pub fn answer<T: Threads + Wait + Sync, H: Host, S: Sink>(
 ) -> Result<(), ToolError>
     requires { S.has_failed sink.old ≡ false }
     ensures answered { OnOk result (IsAnswered (H.gives host.now) (H.opens host.now) asked.now
-        compared.old.refuses compared.new.outside (S.taken sink.old) (S.taken sink.new)) }
+        compared.new.outside (S.taken sink.old) (S.taken sink.new)) }
     ensures refused { IfErr result (IsRefused (H.gives host.now) (H.opens host.now)
-        (H.unopened host.now) asked.now compared.old.refuses compared.new.outside
+        (H.unopened host.now) asked.now compared.new.outside
         (S.taken sink.old) (S.taken sink.new)) }
     ensures flushed { OnOk result (S.is_flushed sink.new ≡ true) }
 {
+    compared.refuses = !asked.records.are_plain();
     match &asked.request {
         Request::Report {
             options,

@@ -22,7 +22,7 @@ fn main(rt: HostRuntime) -> ExitCode {
         Err(UsageError::Reported(report)) => return status_of_usage(&rt, &report),
         Err(UsageError::Memory) => return status_after(&rt, ToolError::Memory),
     };
-    let mut compared = Comparison::new(!asked.records.are_plain());
+    let mut compared = Comparison::new(true);
     let notes = InputNotes::new(rt.alloc());
     let progress = shared_progress(&rt, &asked);
     let inputs = Inputs::new(&rt, &asked, &notes, progress.as_ref());
