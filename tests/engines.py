@@ -90,10 +90,10 @@ def counter(path):
         counted[key] += weight
     return counted
 """
-# The module over a cluster of three workers on this machine, each a process of its own, of which it tells the numbers: a
-# report of a kind of collection.
+# The module over a cluster of three workers on this machine, each a process of its own: a report of each kind of collection in
+# turn. Of each it tells the workers' process numbers before it, and its rows.
 COLLECTIONS = """
-import logging, os, sys
+import json, logging, os, sys
 import dask, dask.bag, dask.dataframe
 from dask.distributed import Client, LocalCluster
 import heavy, loading
@@ -106,12 +106,14 @@ def collection(kind, paths):
     return (dask.bag.from_delayed(loads), 0, 1) if kind == "items" else (loads,)
 
 if __name__ == "__main__":
-    kind, k, *paths = sys.argv[1:]
+    k, cases = json.loads(sys.argv[1])
     with LocalCluster(n_workers=3, threads_per_worker=1, dashboard_address="127.0.0.1:0", silence_logs=logging.ERROR) as cluster:
         with Client(cluster) as client:
-            print(*client.run(os.getpid).values(), flush=True)
-            sys.stdout.buffer.write(heavy.dask.report_csv(*collection(kind, paths), k=int(k)))
-            sys.stdout.flush()
+            for kind, paths in cases:
+                client.wait_for_workers(3)
+                workers = [*client.run(os.getpid).values()]
+                rows = heavy.dask.report_csv(*collection(kind, paths), k=k)
+                print(json.dumps([workers, rows.decode("latin-1")]), flush=True)
 """
 
 
@@ -514,23 +516,27 @@ def try_alone(test: programs.Checks, python: str, room: Room) -> None:
     test.check("over Dask on one machine", gave(ended) == room.expected_fed, ended)
 
 
-def try_collection(test: programs.Checks, python: str, room: Room, kind: str, number: int) -> None:
-    """A cluster of three workers on one machine, of which one is killed while it loads a part of this kind in this pass."""
-    script, name = room.path / "collections_of_dask.py", f"{kind}{number}"
+def try_collections(test: programs.Checks, python: str, room: Room) -> None:
+    """A cluster of three workers on one machine, of which one is killed while it loads a part, for each kind of part in each
+    pass."""
+    script, text = room.path / "collections_of_dask.py", room.parts[-1].read_bytes()
     script.write_text(COLLECTIONS)
     (room.path / "loading.py").write_text(LOADING)
-    pipe = Pipe(room.path / name, room.parts[-1].read_bytes(), number)
+    kinds = [*itertools.product(("frame", "items", "counter"), (1, 2))]
+    pipes = [Pipe(room.path / f"{kind}{number}", text, number) for kind, number in kinds]
+    cases = [(kind, [*map(str, room.parts[:-1]), str(pipe.path)]) for (kind, _), pipe in zip(kinds, pipes)]
     env = {**room.env, "PYTHONPATH": f"{room.path}:{programs.TOP / 'python'}"}
-    words = [python, str(script), kind, str(K), *map(str, room.parts[:-1]), str(pipe.path)]
     # a cluster that ends beside a worker that starts anew says so on standard error
     with open(room.path / "workers.log", "ab") as said:
         how = {"env": env, "cwd": room.path, "stdin": subprocess.DEVNULL, "stdout": subprocess.PIPE, "stderr": said}
-        ran = subprocess.run(words, timeout=SECONDS, **how)
-    workers, _, rows = ran.stdout.partition(b"\n")
-    killed = pipe.readers[number - 1 :][:1]
-    test.check(f"{name}: one of three workers is killed", len(workers.split()) == 3 and str(*killed).encode() in workers.split(), workers)
-    test.check(f"{name}: its part is loaded again", len(pipe.readers) >= 3, pipe.readers)
-    test.check(f"{name}: the report", (ran.returncode, rows) == room.expected, ran)
+        ran = subprocess.run([python, str(script), json.dumps([K, cases])], timeout=len(cases) * SECONDS, **how)
+    test.check("the collections of Dask", ran.returncode == 0, ran)
+    for (kind, number), pipe, line in itertools.zip_longest(kinds, pipes, ran.stdout.splitlines(), fillvalue=b'[[], ""]'):
+        name, (workers, rows) = f"{kind}{number}", json.loads(line)
+        killed = pipe.readers[number - 1 :][:1]
+        test.check(f"{name}: one of three workers is killed", len(workers) == 3 and {*killed} & {*workers}, (killed, workers))
+        test.check(f"{name}: its part is loaded again", len(pipe.readers) >= 3, pipe.readers)
+        test.check(f"{name}: the report", rows.encode("latin-1") == room.expected[1], rows)
 
 
 def try_dask(test: programs.Checks, python: str, room: Room) -> None:
@@ -539,8 +545,7 @@ def try_dask(test: programs.Checks, python: str, room: Room) -> None:
     test.check("the library for C is there", ended.status == 0, ended)
     room.env |= {"LIBHEAVY": f"{room.path}/usr/lib/libheavy.so.1", "PYTHONPATH": str(programs.TOP / "python")}
     tried(test, room, "Dask alone", lambda: try_alone(test, python, room))
-    for kind, number in itertools.product(("frame", "items", "counter"), (1, 2)):
-        tried(test, room, f"{kind}{number}", lambda: try_collection(test, python, room, kind, number))
+    tried(test, room, "collections", lambda: try_collections(test, python, room))
     dask = Dask(python, room)
 
     try:

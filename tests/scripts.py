@@ -1,7 +1,7 @@
 #!/usr/bin/env python3
 """Reads the repository's own shell scripts by shellcheck, and tries .ci/run, tests/run and .ci/setup by stand-ins: what they
-count, what is installed, and that a part which can't be had fails the gate where CI is set; and what .ci/budget finds over
-the budget. Counts the phrases of tests/words.txt in the pages and in the comments of the crates' code.
+count, how many provers run, what is installed, and that a part which can't be had fails the gate where CI is set; and what
+.ci/budget finds over the budget. Counts the phrases of tests/words.txt in the pages and in the comments of the crates' code.
 
 usage: tests/scripts.py
 """
@@ -92,13 +92,15 @@ class Scripts(programs.Checks):
         """The gate over stand-ins that print these closing lines, with a setup that ends so."""
         top = Path(self.room, "gate")
         for name, text in (
-            (".ci/budget", f"echo '{proofs}'"), ("tests/run", f"echo '{tests}'; exit 0"),
+            (".ci/budget", f"echo \"$RT_JOBS provers\"; echo '{proofs}'"), ("tests/run", f"echo '{tests}'; exit 0"),
             (".ci/setup", f"echo set up; exit {setup}"),
         ):
             (top / name).parent.mkdir(parents=True, exist_ok=True)
             (top / name).write_text(f"#!/bin/sh\n{text}\n")
             (top / name).chmod(0o755)
-        shutil.copy(programs.TOP / ".ci" / "run", top / ".ci" / "run")
+        for name in (".ci/run", "bin/build.bash"):
+            (top / name).parent.mkdir(exist_ok=True)
+            shutil.copy(programs.TOP / name, top / name)
         return programs.run([str(top / ".ci" / "run")], env={"PATH": os.environ["PATH"], **env})
 
     def test_gate(self) -> None:
@@ -115,6 +117,13 @@ class Scripts(programs.Checks):
             last = ended.out.splitlines()[-1]
             self.check(name, (ended.status, last) == wanted, ended)
             self.check(f"setting up: {name}", ended.out.startswith(b"set up\n") == ("CI" in env), ended.out)
+
+    def test_provers(self) -> None:
+        """How many provers the gate runs at once: no more than there are processors, or as many as it is asked for."""
+        for env, allowed in [({}, range(1, len(os.sched_getaffinity(0)) + 1)), ({"RT_JOBS": "90"}, [90])]:
+            ended = self.run_gate(env, "1 passed, 0 failed", "1 passed, 0 failed, 0 skipped", 0)
+            number, _, said = ended.out.partition(b" ")
+            self.check(f"provers by {env}", int(number) in allowed and said.startswith(b"provers\n"), ended)
 
     def test_budget(self) -> None:
         """What is over the budget, on a machine of any speed."""
