@@ -136,8 +136,9 @@ class Pipe:
         return sorted(found - {os.getpid()})
 
     def feed(self) -> None:
-        while True:
-            with contextlib.suppress(BrokenPipeError), open(self.path, "wb") as pipe:
+        while self.path.exists():
+            # the room may go while this waits for the pipe's end
+            with contextlib.suppress(BrokenPipeError, FileNotFoundError), open(self.path, "wb") as pipe:
                 waited("the pipe's reader", self.holders)
                 self.readers += self.holders()
                 if len(self.readers) == self.victim:
