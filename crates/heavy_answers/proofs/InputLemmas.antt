@@ -5,7 +5,7 @@ use Rattle.std.proofs.lemmas.List.{append_assoc, append-nil, take_more, map-appe
 use Rattle.hh_records.specs.Layouts.{every, stream_with, texts_known}
 use Rattle.hh_records.specs.LayoutWords.{SaysLayout}
 use Rattle.hh_records.specs.declared.layout.Layout.{Layout}
-use Rattle.heavy_inputs.specs.Inputs.{names_standard}
+use Rattle.heavy_host.specs.Opening.{names_standard}
 use Rattle.heavy_requests.specs.declared.request.RecordWords.{RecordWords}
 use Rattle.heavy_answers.specs.Inputs.{Agree, AreInputs, AreRecords, input_names}
 

@@ -6,7 +6,7 @@ use Rattle.hh_records.specs.Layouts.{every, names_columns, records_known, stream
 use Rattle.hh_records.specs.LayoutWords.{SaysLayout}
 use Rattle.hh_records.specs.Streams.{Known}
 use Rattle.hh_records.specs.declared.layout.Layout.{Layout}
-use Rattle.heavy_inputs.specs.Inputs.{names_standard}
+use Rattle.heavy_host.specs.Opening.{names_standard}
 use Rattle.heavy_requests.specs.declared.request.RecordWords.{RecordWords}
 use Rattle.heavy_answers.specs.declared.opening.OnePass.{OnePass}
 use Rattle.heavy_answers.specs.declared.opening.OnePass.TheVariants as pass

@@ -79,7 +79,7 @@ impl<'a> Host for Inputs<'a> {
     type File = OpenFile<'a>;
 
     ghost use Rattle.std.specs.Prelude.{⊤};
-    ghost use Rattle.heavy_inputs.specs.Inputs.{FailsToOpen};
+    ghost use Rattle.heavy_host.specs.Opening.{FailsToOpen};
 
     ghost text = { λ _. None };
 

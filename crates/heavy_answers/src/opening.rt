@@ -5,14 +5,14 @@ ghost use Rattle.hh_records.specs.Layouts.{every, records_known};
 ghost use Rattle.hh_records.specs.LayoutWords.{LayoutRefused, SaysLayout};
 ghost use Rattle.hh_stream.specs.Ranges.{in_range};
 ghost use Rattle.hh_workers.specs.Workers.{max_workers};
-ghost use Rattle.heavy_inputs.specs.Inputs.{names_standard};
+ghost use Rattle.heavy_host.specs.Opening.{names_standard};
 ghost use Rattle.heavy_answers.specs.Inputs.{Agree, AreInputs, AreRecords, IsReadOnce};
 ghost use Rattle.heavy_answers.specs.Inputs.{input_names};
 ghost use Rattle.heavy_answers.specs.Refusals.{IsUnkept, IsUnopened, IsUnopenedAt, OpenRefused};
 ghost use Rattle.heavy_answers.specs.Refusals.{SourcesRefused};
 
 use crate::host::Host;
-use heavy_inputs::is_standard;
+use heavy_host::is_standard;
 use heavy_requests::RecordWords;
 use hh_faults::ToolError;
 use hh_pieces::SourceRecords;

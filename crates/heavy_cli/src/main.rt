@@ -3,8 +3,8 @@
 #![tactic(auto)]
 
 use heavy_answers::answer;
-use heavy_explanations::{status_after, status_of, status_of_usage};
-use heavy_host::hold_closed;
+use heavy_explanations::{status_of, status_of_usage};
+use heavy_host::{hold_closed, status_after};
 use heavy_inputs::{InputNotes, Inputs, shared_progress};
 use heavy_progress::{RowCount, RowWriter};
 use heavy_requests::{UsageError, read_request};

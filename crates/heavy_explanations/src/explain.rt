@@ -9,7 +9,7 @@ use crate::file_names::FileNames;
 use crate::first_bytes::tell_looks;
 use crate::reasons::{tell_unkept, tell_unread};
 use crate::record_place::Texts;
-use heavy_inputs::Unread;
+use heavy_host::Unread;
 use heavy_requests::{Command, Invocation, Request};
 use hh_commands::Comparison;
 use hh_faults::ToolError;

@@ -14,4 +14,4 @@ mod record_place;
 mod status;
 mod thresholds;
 
-pub use status::{status_after, status_of, status_of_usage};
+pub use status::{status_of, status_of_usage};

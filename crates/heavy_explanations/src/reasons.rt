@@ -1,7 +1,7 @@
 //! Why an input can't be read, or kept.
 
 use crate::escaped::{Name, print_about};
-use heavy_inputs::Unread;
+use heavy_host::Unread;
 
 /// Gives the system's reason in the `text` of an error, which ends by the error's number.
 fn reason_in(text: &str) -> &str {

@@ -13,6 +13,7 @@ use crate::file_names::FileNames;
 use crate::notes::{print_bad, print_few_keys, print_format_hint, print_long};
 use crate::record_place::Texts;
 use crate::thresholds::tell_threshold;
+use heavy_host::{numbered, print_fault, status_after};
 use heavy_inputs::Inputs;
 use heavy_requests::{Invocation, UsageReport};
 use hh_commands::Comparison;
@@ -22,24 +23,6 @@ use std::process::ExitCode;
 
 /// The exit status of the command line's own faults.
 const USAGE: u8 = 2;
-
-/// Gives the fault of an input that can't be read its `number`, where it has one.
-fn numbered(fault: ToolError, number: u64) -> ToolError
-    ensures { status_of result ≡ status_of fault }
-{
-    match fault {
-        ToolError::ReadFault if number > 0 => ToolError::FileFault { number },
-        _ => fault,
-    }
-}
-
-/// Prints `fault`, and gives its status.
-pub fn status_after(rt: &HostRuntime, fault: ToolError) -> ExitCode
-    ensures { exit_status result ≡ status_of fault }
-{
-    let _ = eprintln!(rt; "heavy: {fault}");
-    ExitCode::from(fault.status())
-}
 
 /// Prints more about the `fault` of what was `asked` for, by what was noted of the inputs and
 /// `compared`.
@@ -60,21 +43,18 @@ fn explain(inputs: Inputs<'_>, fault: &ToolError, asked: &Invocation, compared: 
     explain_records(texts, fault);
 }
 
-/// Prints a fault of what was asked for, and gives its status. More about it comes where that is
-/// asked for, standard error is a terminal, or the fault is one of records that are named.
-fn status_explained(
+/// Prints a fault of what was asked for. More about it comes where that is asked for, standard error
+/// is a terminal, or the fault is one of records that are named.
+fn print_explained(
     inputs: Inputs<'_>,
-    fault: ToolError,
+    fault: &ToolError,
     asked: &Invocation,
     compared: &Comparison,
-) -> ExitCode
-    ensures { exit_status result ≡ status_of fault }
-{
-    let status = status_after(inputs.rt, fault);
-    if asked.explains_faults(inputs.rt) || names_records(&fault, asked) {
-        explain(inputs, &fault, asked, compared);
+) {
+    print_fault(inputs.rt, fault);
+    if asked.explains_faults(inputs.rt) || names_records(fault, asked) {
+        explain(inputs, fault, asked, compared);
     }
-    status
 }
 
 /// Prints that a summary has a k of its own, where one was given and a fault has a second line.
@@ -144,15 +124,15 @@ pub fn status_of(
     ensures done { OnOk outcome (exit_status result ≡ 0) }
     ensures refused { IfErr outcome (λ fault. exit_status result ≡ status_of fault) }
 {
-    match outcome {
+    match &outcome {
         Ok(()) => {
             inputs.look(asked);
             print_notes(inputs, asked, compared, rows);
-            ExitCode::SUCCESS
         }
         Err(fault) => {
             let number = inputs.notes.unread.number().max(first_number(asked));
-            status_explained(inputs, numbered(fault, number), asked, compared)
+            print_explained(inputs, &numbered(*fault, number), asked, compared);
         }
     }
+    heavy_host::status_of(outcome)
 }

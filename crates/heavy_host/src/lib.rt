@@ -1,11 +1,17 @@
-//! What the machine gives the program: the words of its command line, the files that these name,
-//! both of which are bytes, and its standard streams.
+//! What the machine gives the program, and what it gets: the words of the command line, the files
+//! and inputs that these name, all of which are bytes, standard streams, and the exit status.
 #![tactic(auto)]
 
 mod files;
+mod opening;
 mod standard;
+mod status;
+mod unread;
 mod words;
 
 pub use files::{FileSource, read_file, read_files};
+pub use opening::{Named, is_standard, open_file, open_input};
 pub use standard::{HeldNumbers, hold_closed};
+pub use status::{numbered, print_fault, status_after, status_of};
+pub use unread::Unread;
 pub use words::{WordSource, after_first, bytes_of, read_words, texts_of};

@@ -2,7 +2,7 @@
 
 ghost use Rattle.std.specs.Prelude.{None, ⊤};
 
-use crate::unread::Unread;
+use heavy_host::Unread;
 use heavy_progress::{LastRecord, LastRecordGuesses, RecordSize, SharedProgress};
 use hh_pieces::{GrowingFile, ReadAt};
 use memchr::memrchr;

@@ -1,29 +1,20 @@
 //! Where records come from: standard input, or files that the command line names.
 
 ghost use Rattle.std.specs.Prelude.{◌≡◌, ◌⊎◌, IfErr};
-ghost use Rattle.heavy_inputs.specs.Inputs.{FailsToOpen, names_standard};
+ghost use Rattle.heavy_host.specs.Opening.{FailsToOpen};
 
 use crate::disk_file::{DiskFile, LOOK_LEN};
 use crate::input::{Input, InputSource, Reader, size_in, source_of};
 use crate::kept_pipe::keep_pipe;
 use crate::notes::InputNotes;
 use crate::open_file::OpenFile;
+use heavy_host::{Named, is_standard, open_file, open_input};
 use heavy_progress::{Form, ProgressReader, SharedProgress, Watch};
 use heavy_requests::{Invocation, MEGABYTE, RecordWords};
 use hh_faults::ToolError;
 use hh_records::Format;
-use std::fs::{self, File};
-use std::io::{self, Read};
-
-/// Whether `name` is that of standard input.
-pub fn is_standard(name: &[u8]) -> bool
-    ensures { result ≡ names_standard name.now }
-{
-    match name {
-        [byte] => *byte == b'-',
-        _ => false,
-    }
-}
+use std::fs;
+use std::io::Read;
 
 /// Reads `input` to its end, for its watch.
 fn read_all(input: &mut Input<'_>, buffer: &mut [u8]) {
@@ -120,10 +111,10 @@ impl<'a> Inputs<'a> {
     pub fn open(self, name: &[u8], number: u64, is_taken: bool) -> Result<OpenInput, ToolError>
         ensures refused { IfErr result (FailsToOpen name.now number) }
     {
-        let source = match (is_standard(name), is_taken) {
-            (true, true) => InputSource::Nothing,
-            (true, false) => InputSource::Standard(self.rt.stdin()),
-            (false, _) => source_of(self.file(name, number)?),
+        let source = match open_input(self.rt, name, number, is_taken, &self.notes.unread)? {
+            Named::Standard => InputSource::Standard(self.rt.stdin()),
+            Named::Nothing => InputSource::Nothing,
+            Named::File(file) => source_of(file),
         };
         Ok(OpenInput { source, number })
     }
@@ -171,26 +162,6 @@ impl<'a> Inputs<'a> {
         }
     }
 
-    /// Opens the file `name` with its `number`.
-    fn file(self, name: &[u8], number: u64) -> Result<File, ToolError>
-        ensures refused { IfErr result (λ fault.
-            (fault ≡ ToolError.Memory) ⊎ (fault ≡ ToolError.FileFault number)) }
-    {
-        let Ok(path) = str::from_utf8(name) else {
-            return Err(ToolError::FileFault { number });
-        };
-        match File::open(self.rt, path) {
-            Ok(file) => Ok(file),
-            Err(error) if matches!(error.kind(), io::ErrorKind::OutOfMemory) => {
-                Err(ToolError::Memory)
-            }
-            Err(error) => {
-                self.notes.unread.note(number, &error);
-                Err(ToolError::FileFault { number })
-            }
-        }
-    }
-
     /// How many bytes the file at `path` has, where it is one of the disk that isn't empty.
     fn size_at(self, path: &str) -> Option<u64> {
         match fs::metadata(self.rt, path) {
@@ -219,7 +190,7 @@ impl<'a> Inputs<'a> {
         if !self.is_disk_file(name) {
             return;
         }
-        let Ok(file) = self.file(name, number) else {
+        let Ok(file) = open_file(self.rt, name, number, &self.notes.unread) else {
             return;
         };
         let Ok(mut buffer) = vec![in self.rt.alloc(); 0u8; LOOK_LEN] else {

@@ -2,7 +2,7 @@
 
 ghost use Rattle.std.specs.Prelude.{◌≡◌, ◌⊎◌, IfErr, ⊤};
 
-use crate::unread::Unread;
+use heavy_host::Unread;
 use hh_faults::ToolError;
 use hh_pieces::ReadAt;
 use std::env;

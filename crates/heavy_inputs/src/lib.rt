@@ -10,10 +10,8 @@ mod kept_pipe;
 mod notes;
 mod open_file;
 mod saved_file;
-mod unread;
 
 pub use input::Reader;
-pub use inputs::{Inputs, OpenInput, is_standard, shared_progress};
+pub use inputs::{Inputs, OpenInput, shared_progress};
 pub use notes::InputNotes;
 pub use open_file::OpenFile;
-pub use unread::Unread;

@@ -1,7 +1,7 @@
 //! What a run notes of its inputs.
 
 use crate::bad_count::BadCount;
-use crate::unread::Unread;
+use heavy_host::Unread;
 use heavy_progress::{Begin, FormatHints, NOTHING};
 use std::alloc::Global;
 use std::cell::Cell;

@@ -1,5 +1,5 @@
 use Rattle.std.proofs.Common.{◌≡◌, ◌∙◌, ◌+◌, ◌||◌, false, map, take, slice_index_or, sym, ap, subst}
-use Rattle.heavy_inputs.specs.Inputs.{names_standard}
+use Rattle.heavy_host.specs.Opening.{names_standard}
 use Rattle.heavy_answers.specs.Inputs.{AreInputs}
 use Rattle.heavy_answers.proofs.InputLemmas.{inputs_next, takes, takes_next}
 use Rattle.heavy_answers.proofs.opening.open_named.Goals as goal
