@@ -14,9 +14,11 @@ told=()
 failed=
 # how many processors the provers take, if not all
 most_jobs=
-# the first build that was timed last with nothing beside it: on how many processors, its seconds by the clock, and those of
-# one processor (docs/GATE.md)
+# what was timed last: on how many processors, its seconds by the clock, and those of one processor (docs/GATE.md); a first
+# build of the program, what the tests use besides it after that, and all scripts of tests/
 first_build=(4 711 2406)
+build_for_tests=(4 200 540)
+all_scripts=(4 600 1200)
 
 tell() { printf 'heavy: %s\n' "$*" >&2; }
 
@@ -78,11 +80,14 @@ is_proved() {
   for name in "${crates[@]}"; do [ ! "$(mark_of "$name")" -nt "$(mark_of "$1")" ] || return 1; done
 }
 
-# Gives all libraries dates that rise from the lowest crate on, as each is built after those below it: a gate that takes them
-# from an earlier run over the same files leaves them in any order.
-date_libraries() {
+# The program of a crate.
+program_of() { printf '%s\n' "$top/crates/$1/out/$1"; }
+
+# Gives all libraries and programs dates that rise from the lowest crate on, as each is built after those below it: a gate
+# that takes them from an earlier run over the same files leaves them in any order.
+date_built() {
   local name
-  while IFS=' :' read -r name _; do touch -c "$(mark_of "$name")"; done < "$top/crates.txt"
+  while IFS=' :' read -r name _; do touch -c "$(mark_of "$name")" "$(program_of "$name")"; done < "$top/crates.txt"
 }
 
 # The version, which stands in the program's sources alone.
@@ -94,11 +99,15 @@ version_of_program() {
 
 minutes_and_seconds() { printf '%d:%02d min' $(($1 / 60)) $(($1 % 60)); }
 
-# How long a first build is likely to take here. More processors than it was timed on gain nothing for sure.
-first_build_takes() {
-  local here seconds=${first_build[1]}
+# How long what was timed so is likely to take here, three numbers for each part of it. More processors than it was timed on
+# gain nothing for sure.
+likely() {
+  local here seconds=0
   here=$(nproc)
-  [ "$here" -ge "${first_build[0]}" ] || seconds=$((first_build[2] / here))
+  while [ $# -gt 0 ]; do
+    if [ "$here" -ge "$1" ]; then seconds=$((seconds + $2)); else seconds=$((seconds + $3 / here)); fi
+    shift 3
+  done
   printf 'about %d min on %d processor%s' $(((seconds + 30) / 60)) "$here" "$([ "$here" -eq 1 ] || echo s)"
 }
 
@@ -326,7 +335,7 @@ build() {
   exec 9> "$program/build.lock"
   wait_for 9 "another build runs in $top"
   if is_stale "$file" "${crates[@]}"; then
-    for line in "${@:3}"; do tell "${line/@TIME@/$(first_build_takes)}"; done
+    for line in "${@:3}"; do tell "${line/@TIME@/$(likely "${first_build[@]}")}"; done
     prove_and_build "$name" "$file" || return 1
   fi
   exec 9>&-
@@ -336,4 +345,13 @@ build() {
 build_heavy() {
   build heavy_cli "$built" "proving and building the program, once and after each change of its sources" \
     "a first build takes @TIME@; crates/*/build.log have its lines"
+}
+
+# Builds the program of a crate that the tests run.
+build_program() {
+  if [ "$1" = heavy_cli ]; then
+    build_heavy
+  else
+    build "$1" "$(program_of "$1")" "proving and building $1 for the tests; crates/*/build.log have its lines"
+  fi
 }

@@ -3,7 +3,8 @@
 says, which crates it proves side by side, that it proves no crate that is proved, that one build is enough for two that
 begin at once, that none runs where nothing is to be built, and that one that is interrupted or fails leaves no process.
 The library for C is installed of what the stand-in leaves, and left out where there is no C compiler; it is built over
-the crates that `rt ci` left, where they are as it left them.
+the crates that `rt ci` left, where they are as it left them. bin/test builds what the scripts use that it runs, and says
+how long that takes; and a script that is run by itself builds a program that is older than its sources.
 
 usage: tests/install.py
 """
@@ -57,6 +58,7 @@ done
 case $name in
   heavy_cli) echo run >> "$RUNS" ;;
   heavy_ffi) echo lib >> "$RUNS" ;;
+  heavy_oom) echo calls >> "$RUNS" ;;
 esac
 echo "begin $name --jobs $jobs" >> "$PROOFS"
 if [[ " $SLOW " == *" $name "* ]]; then
@@ -68,7 +70,7 @@ echo "end $name" >> "$PROOFS"
 echo "the stand-in's last line"
 [ "$name" != "$FAILING" ] || exit 1
 case $name in
-  heavy_cli) [ "$OUTCOME" = 0 ] || exit "$OUTCOME"; touch "$made" ;;
+  heavy_cli | heavy_oom) [ "$OUTCOME" = 0 ] || exit "$OUTCOME"; touch "$made" ;;
   heavy_ffi) [ "$OUTCOME" = 0 ] || exit "$OUTCOME"; cp "$KIT/calls.a" "$made" ;;
   *) mkdir -p "$made"; touch "$made/format" ;;
 esac
@@ -110,7 +112,7 @@ class Copy:
 
     def source_of(self, crate: str) -> Path:
         """The one source of a crate, of which a program has another name."""
-        return self.top / "crates" / crate / "src" / ("main.rt" if crate == "heavy_cli" else "lib.rt")
+        return self.top / "crates" / crate / "src" / ("main.rt" if crate in ("heavy_cli", "heavy_oom") else "lib.rt")
 
     def environment(
         self, seconds: float = 0, outcome: int = 0, path: str | None = None, slow: str = "hh_stream",
@@ -136,6 +138,25 @@ class Copy:
             (self.kit / f"{name}.c").write_text(text)
             subprocess.run(["cc", "-fPIC", "-c", f"{name}.c", "-o", f"{name}.o"], cwd=self.kit, check=True)
             subprocess.run(["ar", "rcs", f"{name}.a", f"{name}.o"], cwd=self.kit, check=True)
+
+    def add_tests(self) -> None:
+        """What bin/test needs: a kit with archives, and scripts that tell their names and words, of which one names the library
+        for C, and one the program with the public calls."""
+        (self.kit / "c").mkdir()
+        for file in ("calls.a", "c/liblibc_c.a"):
+            (self.kit / file).touch()
+        folder = self.top / "tests"
+        folder.mkdir()
+        shutil.copy(programs.TOP / "tests" / "run", folder)
+        for file in (programs.TOP / "tests").glob("*.py"):
+            used = {"library.py": "install_library", "refused_memory.py": "heavy_oom"}.get(file.name, "")
+            (folder / file.name).write_text(f"# {used}\nimport sys\nprint(*sys.argv)\n")
+
+    def test(self, *words: str, **how) -> tuple[programs.Ended, list[str]]:
+        """bin/test, and what it built."""
+        self.runs.unlink(missing_ok=True)
+        ended = programs.run([str(self.top / "bin" / "test"), *words], env=self.environment(**how))
+        return ended, self.runs.read_text().split() if self.runs.exists() else []
 
     def install(self, prefix: str, destdir: str = "", **how) -> programs.Ended:
         env = {**self.environment(**how), "DESTDIR": destdir}
@@ -410,6 +431,59 @@ class Install(programs.Checks):
             self.check(f"what it is built over {name}", not {*words} - {*calls[-1].split()}, calls)
             copy.runs.unlink()
             (crates / "heavy_ffi" / "out" / "libheavy_ffi.a").unlink()
+
+    def test_tests(self) -> None:
+        """bin/test builds what the scripts use that it runs, says first how long that takes, and runs them."""
+        copy = Copy(self.room, "tests")
+        copy.add_tests()
+        first = rb"heavy: the tests take %b; what they use is built before, the first time in about (\d+) min on 4 processors\n"
+        named, whole = rb"minutes at most", rb"about (?:\d+) min on 4 processors"
+        ended, built = copy.test("answers.py 7", "--only", "some")
+        one = re.match(first % named, ended.err)
+        self.check("one script", (ended.status, built, bool(one)) == (0, ["run"], True), (ended, built))
+        ran = ended.out.splitlines()
+        right = ran[0] == b"answers.py 7 --only some" and ran[-1] == b"1 passed, 0 failed, 0 skipped"
+        self.check("its words, and the last line", right, ran)
+        ended, built = copy.test()
+        scripts = programs.run([str(programs.TOP / "tests" / "run"), "--list"], env=dict(os.environ)).out.splitlines()
+        more = re.match(first % whole, ended.err)
+        self.check("all scripts", (ended.status, built, bool(more)) == (0, ["lib", "calls"], True), (ended, built))
+        self.check("the library takes longer", one and more and int(more[1]) > int(one[1]) > 0, (one, more))
+        ran = [line for line in ended.out.splitlines() if b" took " not in line]
+        self.check("they are run", ran == [*scripts, b"%d passed, 0 failed, 0 skipped" % len(scripts)], ran)
+        ended, built = copy.test()
+        said = re.fullmatch(rb"heavy: the tests take %b\n" % whole, ended.err)
+        self.check("nothing is built again", (ended.status, built, bool(said)) == (0, [], True), (ended, built))
+        later = time.time() + 5
+        os.utime(copy.source_of("heavy_oom"), (later, later))
+        for words, wanted in [(["answers.py"], []), (["refused_memory.py"], ["calls"])]:
+            ended, built = copy.test(*words)
+            self.check(f"{words} with a newer source of the calls", (ended.status, built) == (0, wanted), (ended, built))
+        os.utime(copy.source, (later, later))
+        ended, built = copy.test("no.py")
+        self.check("no such script", (ended.status, ended.out, built) == (2, b"", []), (ended, built))
+        ended, built = copy.test("answers.py", outcome=3)
+        told = b"the build failed; the last lines of " in ended.err
+        self.check("a failed build", (ended.status, ended.out, told) == (1, b"", True), (ended, built))
+
+    def test_stale_program(self) -> None:
+        """A script that is run by itself finds the program as its sources are: it is built first, or the script fails, told so
+        once."""
+        copy = Copy(self.room, "stale")
+        (copy.top / "tests").mkdir()
+        shutil.copy(programs.TOP / "tests" / "programs.py", copy.top / "tests")
+        script, path = copy.top / "tests" / "asks.py", os.fsencode(copy.top / "crates" / "heavy_cli" / "out" / "heavy_cli")
+        script.write_text("import programs\nfor _ in range(2):\n    try:\n        print(programs.built('heavy_cli'))\n"
+                          "    except SystemExit as why:\n        print(why)\n")
+        untold = b"the program of heavy_cli is not built as its sources are; bin/test builds it\n"
+        for name, outcome, runs, wanted in [
+            ("not built", 0, 1, 2 * (path + b"\n")), ("as its sources are", 0, 1, 2 * (path + b"\n")),
+            ("with a source that fails", 3, 2, 2 * untold), ("with a newer source", 0, 3, 2 * (path + b"\n")),
+        ]:
+            if outcome:
+                os.utime(copy.source, (time.time() + 5,) * 2)
+            ended = programs.run(["python3", str(script)], env=copy.environment(outcome=outcome))
+            self.check(f"a program {name}", (ended.status, ended.out, copy.builds()) == (0, wanted, runs), (ended, copy.builds()))
 
     def test_install(self) -> None:
         """All files are where Debian has them, and the installed program answers. The library is left out, which takes long

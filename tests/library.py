@@ -7,8 +7,8 @@ machine.
 
 usage: tests/library.py
 
-bin/install-library builds the library: in a few minutes after `rt ci` or `bin/heavy`. Where neither left the crates that
-it stands on, to prove them all takes long, so the header alone is compared, and that is said.
+bin/install-library builds the library where bin/test hasn't: in a few minutes after `rt ci` or `bin/heavy`. Where none of them
+left the crates that it stands on, to prove them all takes long, so the header alone is compared, and that is said.
 """
 import itertools
 import os

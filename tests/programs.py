@@ -1,4 +1,5 @@
 """The built programs, and how a test runs one."""
+import functools
 import os
 import shutil
 import subprocess
@@ -30,15 +31,19 @@ ONLY = only()
 sys.stdout.reconfigure(errors="backslashreplace")
 
 
+@functools.cache
+def is_built(crate: str) -> bool:
+    """Whether the program of a crate is built as its sources are: else it is proved and built first, which tells what it does
+    and why it fails, once."""
+    words = ["bash", "-c", f'. "{TOP}/bin/build.bash"; build_program "$0"', crate]
+    return subprocess.run(words, stdin=subprocess.DEVNULL).returncode == 0
+
+
 def built(crate: str) -> str:
-    """The program of a crate, which `rt ci` has left there; else it is proved and built first."""
-    program = TOP / "crates" / crate / "out" / crate
-    if not program.exists():
-        print(f"building {crate}", file=sys.stderr, flush=True)
-        log = subprocess.run(["rt", "run"], cwd=TOP / "crates" / crate, stdin=subprocess.DEVNULL, capture_output=True)
-        if not program.exists():
-            sys.exit(log.stdout.decode(errors="replace") + log.stderr.decode(errors="replace"))
-    return str(program)
+    """The program of a crate, as its sources are."""
+    if not is_built(crate):
+        sys.exit(f"the program of {crate} is not built as its sources are; bin/test builds it")
+    return str(TOP / "crates" / crate / "out" / crate)
 
 
 def clang() -> str:
@@ -67,7 +72,7 @@ def python_with(*modules: str) -> str | None:
 
 
 def has_library() -> bool:
-    """Whether the library for C was built, or all that it stands on: `rt ci` leaves that."""
+    """Whether the library for C was built, or all that it stands on: bin/test leaves the one, and `rt ci` the other."""
     places = ("heavy_ffi/out/libheavy_ffi.a", "hh_commands/out/rlib/hh_commands.rlib")
     return any((TOP / "crates" / place).exists() for place in places)
 

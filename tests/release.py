@@ -400,10 +400,10 @@ def try_failures(checks: programs.Checks, room: str, copy: Copy, tools: Path) ->
 
 
 def try_help(checks: programs.Checks) -> None:
-    for name in ("install", "install-library", "uninstall", "release", "wheel"):
-        ended = programs.run([str(programs.TOP / "bin" / name), "--help"], env=PATH)
-        right = (ended.status, ended.err) == (0, b"") and f"\nusage: bin/{name} ".encode() in ended.out
-        checks.check(f"bin/{name} --help", right and b"set -eu" not in ended.out, ended)
+    for name in ("bin/install", "bin/install-library", "bin/uninstall", "bin/release", "bin/wheel", "bin/test", "tests/run"):
+        ended = programs.run([str(programs.TOP / name), "--help"], env=PATH)
+        right = (ended.status, ended.err) == (0, b"") and f"\nusage: {name} ".encode() in ended.out
+        checks.check(f"{name} --help", right and b"set -" not in ended.out, ended)
     for name, words in (("one_file.sh", ["2"]), ("many_machines.sh", ["2"]), ("many_machines.sh", [])):
         ended = programs.run([str(programs.TOP / "examples" / "machines" / name), *words], env=PATH)
         checks.check(f"{name} {words}", (ended.status, ended.out) == (2, b"") and b"usage: " in ended.err, ended)

@@ -1,7 +1,8 @@
 #!/usr/bin/env python3
 """Reads the repository's own shell scripts by shellcheck, and tries .ci/run, tests/run and .ci/setup by stand-ins: what they
 count, how many provers run, what is installed, and that a part which can't be had fails the gate where CI is set; and what
-.ci/budget finds over the budget. Counts the phrases of tests/words.txt in the pages and in the comments of the crates' code.
+.ci/budget finds over the budget. Looks that tests/run has all scripts of this folder, and that each can be run by its name.
+Counts the phrases of tests/words.txt in the pages and in the comments of the crates' code.
 
 usage: tests/scripts.py
 """
@@ -88,12 +89,12 @@ class Scripts(programs.Checks):
         planted = comments_of("/// So\n    /// many, so manyfold.\nlet a = \"so many\";\n/// Or so\n\n/// many\n")
         self.check("a phrase over two lines", times("so many", planted) == 1, planted)
 
-    def run_gate(self, env: dict[str, str], proofs: str, tests: str, setup: int) -> programs.Ended:
-        """The gate over stand-ins that print these closing lines, with a setup that ends so."""
+    def run_gate(self, env: dict[str, str], proofs: str, tests: str, setup: int, status: int = 0) -> programs.Ended:
+        """The gate over stand-ins that print these closing lines, with a setup that ends so, and proofs and tests that end so."""
         top = Path(self.room, "gate")
         for name, text in (
-            (".ci/budget", f"echo \"$RT_JOBS provers\"; echo '{proofs}'"), ("tests/run", f"echo '{tests}'; exit 0"),
-            (".ci/setup", f"echo set up; exit {setup}"),
+            (".ci/budget", f"echo \"$RT_JOBS provers\"; echo '{proofs}'; exit {status}"),
+            ("bin/test", f"echo '{tests}'; exit {status}"), (".ci/setup", f"echo set up; exit {setup}"),
         ):
             (top / name).parent.mkdir(parents=True, exist_ok=True)
             (top / name).write_text(f"#!/bin/sh\n{text}\n")
@@ -117,6 +118,28 @@ class Scripts(programs.Checks):
             last = ended.out.splitlines()[-1]
             self.check(name, (ended.status, last) == wanted, ended)
             self.check(f"setting up: {name}", ended.out.startswith(b"set up\n") == ("CI" in env), ended.out)
+        for name, proofs, tests, wanted in [
+            ("both parts fail", "90 passed, 10 failed", "18 passed, 2 failed, 0 skipped", b"108 passed, 12 failed, 0 skipped"),
+            ("both fail untold", "cut off", "the build failed", b"0 passed, 2 failed, 0 skipped"),
+        ]:
+            ended = self.run_gate({}, proofs, tests, 0, status=1)
+            self.check(name, (ended.status, ended.out.splitlines()[-1]) == (1, wanted), ended)
+
+    def test_dates(self) -> None:
+        """What `rt ci` proved and built counts as built from its sources, whatever dates it left, unless it failed."""
+        top = Path(self.room, "gate")
+        places = ["one/src/lib.rt", "one/out/rlib/one.rlib/format", "two/src/main.rt", "two/out/two"]
+        for place in places:
+            (top / "crates" / place).parent.mkdir(parents=True)
+            (top / "crates" / place).write_text("")
+        (top / "crates.txt").write_text("one:\ntwo: one\n")
+        for status, wanted in [(1, [places[1], places[3]]), (0, [])]:
+            for place in places:
+                os.utime(top / "crates" / place, (10**9 - 9, 10**9 - 9) if "/out/" in place else None)
+            self.run_gate({}, "1 passed, 0 failed", "1 passed, 0 failed, 0 skipped", 0, status)
+            times = {place: (top / "crates" / place).stat().st_mtime for place in places}
+            old = [place for place in places if times[place] < max(times[places[0]], times[places[2]])]
+            self.check(f"what is older than its sources behind rt ci with status {status}", old == wanted, times)
 
     def test_provers(self) -> None:
         """How many provers the gate runs at once: no more than there are processors, or as many as it is asked for."""
@@ -147,22 +170,43 @@ class Scripts(programs.Checks):
             said = out.getvalue()
             self.check(name, said.endswith("".join(wanted)), said)
 
+    def test_listed(self) -> None:
+        """tests/run has each script of this folder, as often as it is there, and each of them can be run by its name."""
+        folder = programs.TOP / "tests"
+        listed = programs.run([str(folder / "run"), "--list"], env=dict(os.environ)).out.decode().splitlines()
+        texts = {file: file.read_text() for file in folder.glob("*.py")}
+        found = {file for file, text in texts.items() if text.startswith("#!") or '__name__ == "__main__"' in text}
+        # it runs one of the others
+        names = sorted(file.name for file in found if file.name != "on_static.py")
+        self.check("tests/run has all scripts", sorted(line.split()[0] for line in listed) == names, (listed, names))
+        wrong = [file.name for file in found if not (os.access(file, os.X_OK) and texts[file].startswith("#!/usr/bin/env python3\n"))]
+        self.check("each can be run by its name", wrong == [], wrong)
+
     def test_run(self) -> None:
-        """What tests/run counts of what scripts print and end with."""
+        """What tests/run counts of what scripts print and end with, and what it hands to them."""
         top = Path(self.room, "tests")
         top.mkdir()
-        shutil.copy(programs.TOP / "tests" / "run", top / "run")
+        run, env = str(top / "run"), dict(os.environ)
+        shutil.copy(programs.TOP / "tests" / "run", run)
         for name, status, line in [
             ("good.py", 0, "good: 3 passed, 0 failed, 1 skipped"), ("bad.py", 1, "bad: 2 passed, 1 failed, 0 skipped"),
             ("none.py", programs.SKIPPED, "none: 0 passed, 0 failed, 2 skipped"),
         ]:
-            (top / name).write_text(f"import sys\nprint('{line}', sys.argv[1:] or '', sep='')\nsys.exit({status})\n")
-        for names, wanted in [
-            (["good.py"], (0, b"1 passed, 0 failed, 1 skipped")), (["good.py", "none.py"], (0, b"1 passed, 0 failed, 3 skipped")),
-            (["good.py", "bad.py", "none.py"], (1, b"1 passed, 1 failed, 3 skipped")),
+            (top / name).write_text(f"import sys\nprint(sys.argv[1:])\nprint('{line}')\nsys.exit({status})\n")
+        for words, handed, wanted in [
+            (["good.py"], b"[]", (0, b"1 passed, 0 failed, 1 skipped")),
+            (["good.py", "none.py"], b"[]", (0, b"1 passed, 0 failed, 3 skipped")),
+            (["good.py", "bad.py", "none.py"], b"[]", (1, b"1 passed, 1 failed, 3 skipped")),
+            (["good.py 7", "--only", "a", "b"], b"['7', '--only', 'a', 'b']", (0, b"1 passed, 0 failed, 1 skipped")),
         ]:
-            ended = programs.run([str(top / "run"), *names], env=dict(os.environ))
-            self.check(f"tests/run of {names}", (ended.status, ended.out.splitlines()[-1]) == wanted, ended)
+            ended = programs.run([run, *words], env=env)
+            lines = ended.out.splitlines()
+            self.check(f"tests/run of {words}", (ended.status, lines[-1], lines[0]) == (*wanted, handed), ended)
+        ended = programs.run([run, "--list", "good.py 7", "bad.py"], env=env)
+        self.check("what would be run", (ended.status, ended.out) == (0, b"good.py 7\nbad.py\n"), ended)
+        for words in (["no.py"], ["--onyl", "a"], ["--only", "a"], ["good.py", "--only"]):
+            ended = programs.run([run, *words], env=env)
+            self.check(f"wrong words: {words}", (ended.status, ended.out) == (2, b"") and ended.err, ended)
 
     @unittest.skipUnless(os.geteuid() == 0, "installing wants root")
     def test_setup(self) -> None:
