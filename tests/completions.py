@@ -17,6 +17,7 @@ import signal
 import subprocess
 import sys
 import tempfile
+import termios
 import time
 import unittest
 from collections.abc import Callable
@@ -40,8 +41,10 @@ SHELLS = [
     ("zsh", ["-f", "-i"], "fpath=({top}/completions $fpath); autoload -U compinit; compinit -u -D"),
     ("fish", ["--no-config", "-i"], "source {top}/completions/heavy.fish"),
 ]
-# seconds after which a shell that writes nothing waits for the next key, and after which it is given up
-SILENCE, PATIENCE = 0.7, 60
+# seconds between two looks at what a shell has done, and after which it is given up
+PAUSE, PATIENCE = 0.02, 600
+# what rings a terminal's bell, moves its cursor or colours it
+CONTROL = re.compile(rb"\a|\x1b(?:\[[0-?]*[ -/]*[@-~]|\][^\a\x1b]*(?:\a|\x1b\\)|[ -/]*[0-~])")
 # (file, text, what it becomes): each is a drift that has to be found
 DRIFTS = [
     (MAN, ".B heavy merge", ".B heavy join"),
@@ -348,7 +351,6 @@ class Terminal:
             os.execvpe(words[0], words, env)
 
     def __enter__(self) -> "Terminal":
-        self.listen()
         return self
 
     def __exit__(self, *_: object) -> None:
@@ -356,27 +358,37 @@ class Terminal:
         os.kill(self.number, signal.SIGKILL)
         os.waitpid(self.number, 0)
 
-    def listen(self, is_over: Callable[[], bool] | None = None) -> None:
-        """Reads what the shell writes, until this holds, or, where nothing is given, until it is silent."""
-        end = time.monotonic() + PATIENCE
-        while time.monotonic() < end and not (is_over and is_over()):
-            if select.select([self.side], [], [], SILENCE)[0]:
-                try:
-                    self.said += os.read(self.side, 65536)
-                except OSError:
-                    return  # the shell has ended
-            elif not is_over:
-                return
+    def edits(self) -> bool:
+        """Whether the shell takes each key as it is typed, and not the terminal a line of them."""
+        return not termios.tcgetattr(self.side)[3] & termios.ICANON
 
-    def types(self, *parts: str) -> None:
-        """Types a line, with the tabulator between its parts, and waits until it has run."""
-        done = Path(self.room, f"{self.name} {self.count}")
+    def shows(self, begin: int, word: str) -> bool:
+        """Whether what the shell wrote from there on has this word, as a terminal shows it."""
+        text = CONTROL.sub(b"", self.said[begin:]).decode(errors="replace")
+        while "\b" in text:
+            text = re.sub("[^\b]?\b", "", text, count=1)
+        return re.search(word, text) is not None
+
+    def waits(self, what: str, holds: Callable[[], bool]) -> None:
+        """Reads what the shell writes until this holds."""
+        end = time.monotonic() + PATIENCE
+        while not holds():
+            if time.monotonic() > end:
+                raise TimeoutError(f"{self.name}: waited in vain for {what}: {self.said[-500:]}")
+            if select.select([self.side], [], [], PAUSE)[0]:
+                self.said += os.read(self.side, 65536)
+
+    def types(self, *parts: tuple[str, str] | str) -> None:
+        """Types a line and waits until it has run. A part with the word that it becomes is completed by the tabulator, and that
+        word is waited for."""
+        done, begin = Path(self.room, f"{self.name} {self.count}"), len(self.said)
         self.count += 1
-        for part in parts[:-1]:
+        self.waits("a line's begin", self.edits)
+        for part, word in parts[:-1]:
             os.write(self.side, part.encode() + b"\t")
-            self.listen()
+            self.waits(word, lambda: self.shows(begin, word))
         os.write(self.side, f"{parts[-1]}; : > '{done.name}'\r".encode())
-        self.listen(done.exists)
+        self.waits("a line's end", done.exists)
 
 
 class Completions(programs.Checks):
@@ -416,8 +428,8 @@ class Completions(programs.Checks):
                     self.skipTest(f"{shell} is not here, so that it completes nothing")
                 with Terminal([shell, *words], self.room) as terminal:
                     terminal.types(begin.format(top=programs.TOP))
-                    terminal.types("heavy rep", "--k 2 four.csv > report")
-                    terminal.types("heavy summarise --k 2 --met", "s", "four.csv > summary")
+                    terminal.types(("heavy rep", "heavy report"), "--k 2 four.csv > report")
+                    terminal.types(("heavy summarise --k 2 --met", "--method"), ("s", "--method[= ]ss"), "four.csv > summary")
                 made = [Path(self.room, name) for name in ("report", "summary")]
                 gave = [file.read_bytes() if file.exists() else None for file in made]
                 self.check(f"{shell} completes a command and an option", gave == [b"a,6\n", wanted], (gave, terminal.said))
