@@ -44,7 +44,8 @@ STAND_IN = """#!/bin/sh
 echo "$KIT/START-HERE.md"
 """
 # The compiler of that toolchain. It tells what rattle tells, notes what it does, and leaves a library, or of the program
-# an object. Of a slow crate it waits, with a process below it.
+# an object. Of a slow crate it waits, with a process below it, until the file GO is there or those of ALL have begun; and a
+# crate that fails fails once such a process was noted, where there are slow ones.
 COMPILER = """#!/usr/bin/env bash
 echo "$*" >> "$CALLS"
 while [ $# -gt 0 ]; do
@@ -61,11 +62,16 @@ case $name in
   heavy_oom) echo calls >> "$RUNS" ;;
 esac
 echo "begin $name --jobs $jobs" >> "$PROOFS"
+all_begun() {
+  [ -n "$ALL" ] || return 1
+  for one in $ALL; do grep -q "^begin $one " "$PROOFS" || return 1; done
+}
 if [[ " $SLOW " == *" $name "* ]]; then
-  sleep "$SECONDS_TO_RUN" &
+  { until [ -e "$GO" ] || all_begun; do sleep 0.05; done; } &
   echo $! >> "$CHILDREN"
   wait
 fi
+if [ "$name" = "$FAILING" ] && [ -n "$SLOW" ]; then until [ -s "$CHILDREN" ]; do sleep 0.05; done; fi
 echo "end $name" >> "$PROOFS"
 echo "the stand-in's last line"
 [ "$name" != "$FAILING" ] || exit 1
@@ -82,7 +88,7 @@ printf '#!/bin/sh\\necho "built: $*"\\n' > "$2"
 chmod +x "$2"
 """
 BEGIN = b"heavy: proving and building the program, once and after each change of its sources\n"
-SOON = 120  # seconds
+SOON = 600  # seconds, after which what hasn't come doesn't come
 
 
 class Copy:
@@ -100,6 +106,7 @@ class Copy:
         self.source = self.source_of("heavy_cli")
         names = ("runs", "children", "proofs", "calls")
         self.runs, self.children, self.proofs, self.calls = (self.top / name for name in names)
+        self.go = self.top / "go"
         tools, self.kit = self.top / "tools", self.top / "kit"
         for place, text in (
             (tools / "rt", STAND_IN), (tools / "nproc", "#!/bin/sh\necho $PROCESSORS\n"),
@@ -115,13 +122,12 @@ class Copy:
         return self.top / "crates" / crate / "src" / ("main.rt" if crate in ("heavy_cli", "heavy_oom") else "lib.rt")
 
     def environment(
-        self, seconds: float = 0, outcome: int = 0, path: str | None = None, slow: str = "hh_stream",
-        failing: str = "", processors: int = 4,
+        self, outcome: int = 0, path: str | None = None, slow: str = "", all_of: str = "", failing: str = "", processors: int = 4,
     ) -> dict[str, str]:
-        """What the stand-ins hear: how long slow crates take, how the program's build ends, and which crate fails."""
+        """What the stand-ins hear: how the program's build ends, which crates wait, and for which others, and which one fails."""
         return {
-            "PATH": path or self.path, "RUNS": str(self.runs), "CHILDREN": str(self.children),
-            "PROOFS": str(self.proofs), "CALLS": str(self.calls), "SECONDS_TO_RUN": str(seconds), "OUTCOME": str(outcome), "KIT": str(self.kit),
+            "PATH": path or self.path, "RUNS": str(self.runs), "CHILDREN": str(self.children), "GO": str(self.go), "ALL": all_of,
+            "PROOFS": str(self.proofs), "CALLS": str(self.calls), "OUTCOME": str(outcome), "KIT": str(self.kit),
             "SLOW": slow, "FAILING": failing, "PROCESSORS": str(processors),
         }
 
@@ -162,16 +168,26 @@ class Copy:
         env = {**self.environment(**how), "DESTDIR": destdir}
         return programs.run([str(self.top / "bin" / "install"), prefix], env=env)
 
-    def start(self, *words, stderr: int = subprocess.PIPE, preexec_fn=None, **named) -> subprocess.Popen:
+    def start(self, stderr: int = subprocess.PIPE, preexec_fn=None, **named) -> subprocess.Popen:
         """`bin/heavy report` in this environment."""
         how = {"stdin": subprocess.DEVNULL, "stdout": subprocess.PIPE, "stderr": stderr, "preexec_fn": preexec_fn}
-        how["env"] = self.environment(*words, **named)
+        how["env"] = self.environment(**named)
         return subprocess.Popen([self.top / "bin" / "heavy", "report"], **how)
 
-    def run(self, *words, **how) -> tuple[int, bytes, bytes]:
-        started = self.start(*words, **how)
+    def run(self, **how) -> tuple[int, bytes, bytes]:
+        started = self.start(**how)
         out, err = started.communicate(timeout=SOON)
         return started.returncode, out, err
+
+    def run_until(self, told: bytes, slow: str) -> tuple[int, bytes, bytes]:
+        """The same, of which a crate takes until a line on standard error has these bytes."""
+        started = self.start(slow=slow)
+        lines = [started.stderr.readline()]
+        while lines[-1] and told not in lines[-1]:
+            lines.append(started.stderr.readline())
+        self.go.touch()
+        out, err = started.communicate(timeout=SOON)
+        return started.returncode, out, b"".join(lines) + err
 
     def builds(self) -> int:
         return len(self.runs.read_text().split()) if self.runs.exists() else 0
@@ -233,14 +249,14 @@ class Install(programs.Checks):
     def test_builds(self) -> None:
         """A first build says what it does; the next run builds nothing and says nothing; a changed source is built."""
         copy = Copy(self.room, "builds")
-        status, out, err = copy.run(1)
+        status, out, err = copy.run_until(b"proving hh_stream", "hh_stream")
         self.check("a first build runs the program", (status, out) == (0, b"built: report\n"), (status, out, err))
         self.check("it says at once what it does", err.startswith(BEGIN), err)
         begun, crates = copy.begun(), sorted({*crates_below("heavy_cli"), "heavy_cli"})
         told = f"heavy: proving hh_stream, crate 1 of {len(crates)}, ".encode()
         self.check("it tells the crate", told in err, err)
         timed = re.search(rb"a first build takes about (\d+) min on 4 processors; ", err)
-        slower = re.search(rb"a first build takes about (\d+) min on 1 processor; ", Copy(self.room, "one").run(1, processors=1)[2])
+        slower = re.search(rb"a first build takes about (\d+) min on 1 processor; ", Copy(self.room, "one").run(processors=1)[2])
         self.check("it tells how long it takes", timed and slower and int(slower[1]) > 2 * int(timed[1]) > 0, (err, slower))
         self.check("it has a line for each crate", b"\r" not in err and err.count(b"hh_stream") == 1, err)
         self.check("each crate is proved once", begun == crates, (begun, crates))
@@ -268,30 +284,32 @@ class Install(programs.Checks):
     def test_order(self) -> None:
         """Crates that don't stand on each other are proved at once, and each after those below it; one at a time on one
         processor."""
-        slow = ["hh_counters", "hh_countmin", "hh_records", "hh_pool", "hh_saved"]
-        for processors in (4, 1):
-            copy = Copy(self.room, f"order{processors}")
-            status, out, err = copy.run(1, slow=" ".join(slow), processors=processors)
+        one, other = ["hh_counters", "hh_countmin", "hh_records"], ["hh_pool", "hh_saved"]
+        for processors, slow in ((4, one), (4, other), (1, [])):
+            name = f"{processors} with {slow}"
+            copy = Copy(self.room, f"order{len(slow)}")
+            # each of the slow ones takes until all of them have begun, so that the build ends if they are proved at once
+            status, out, err = copy.run(slow=" ".join(slow), all_of=" ".join(slow), processors=processors)
             lines = [line.split() for line in copy.proof_lines()]
-            self.check(f"a build on {processors}", (status, out) == (0, b"built: report\n"), (status, out, err))
+            self.check(f"a build on {name}", (status, out) == (0, b"built: report\n"), (status, out, err))
             at = {(words[0], words[1]): place for place, words in enumerate(lines)}
             after = all(at["end", it] < at["begin", name] for _, name in at for it in crates_below(name))
-            self.check(f"crates below come first on {processors}", after, lines)
-            met = {frozenset((a, b)) for a in slow for b in slow if at["begin", a] < at["begin", b] < at["end", a]}
-            wanted = {frozenset(pair) for pair in (slow[:2], slow[1:3], slow[:3:2], slow[3:])} if processors == 4 else set()
-            self.check(f"proved at once on {processors}", met == wanted, lines)
+            self.check(f"crates below come first on {name}", after, lines)
+            met = all(at["begin", a] < at["end", b] for a in slow for b in slow)
+            alone = [words[0] for words in lines] == ["begin", "end"] * (len(lines) // 2)
+            self.check(f"proved at once on {name}", met and alone == (processors == 1), lines)
             jobs = {words[1]: int(words[3]) for words in lines if words[0] == "begin"}
-            self.check(f"jobs on {processors}", max(jobs.values()) == processors, jobs)
+            self.check(f"jobs on {name}", max(jobs.values()) == processors, jobs)
 
     def test_failures(self) -> None:
         """A build that fails shows the end of its log, and where the whole is; no toolchain is told as such."""
         copy = Copy(self.room, "failures")
-        status, out, err = copy.run(0, 3)
+        status, out, err = copy.run(outcome=3)
         log = os.fsencode(copy.top / "crates" / "heavy_cli" / "build.log")
         told = b"the build failed; the last lines of " + log in err and b"the stand-in's last line\n" in err
         self.check("a failed build", (status, out) == (1, b"") and told, (status, out, err))
         beside = Copy(self.room, "beside")
-        started = beside.start(600, slow="hh_summaries hh_saved", failing="hh_countmin")
+        started = beside.start(slow="hh_summaries hh_saved", failing="hh_countmin")
         out, err = started.communicate(timeout=SOON)
         log = os.fsencode(beside.top / "crates" / "hh_countmin" / "build.log")
         told = b"the build failed; the last lines of " + log in err and b"the stand-in's last line\n" in err
@@ -311,7 +329,7 @@ class Install(programs.Checks):
         ):
             copy = Copy(self.room, number.name)
             # a process that is started in the background of a shell may have these signals ignored; not this one
-            started = copy.start(600, slow=slow, preexec_fn=lambda: signal.signal(number, signal.SIG_DFL))
+            started = copy.start(slow=slow, preexec_fn=lambda: signal.signal(number, signal.SIG_DFL))
             children = copy.waits_for_child(count)
             started.send_signal(number)
             _, err = started.communicate(timeout=SOON)
@@ -326,7 +344,7 @@ class Install(programs.Checks):
         if not shutil.which("flock"):
             self.skipTest("two builds at once want flock")
         copy = Copy(self.room, "two")
-        first = copy.start(3)
+        first = copy.start(slow="hh_stream")
         copy.waits_for_child()
         said = b"heavy: another build runs in " + os.fsencode(copy.top) + b"; waiting for its end\n"
         waits = copy.start()
@@ -334,8 +352,12 @@ class Install(programs.Checks):
         waits.terminate()
         waits.communicate(timeout=SOON)
         self.check("the wait is interrupted", (heard, waits.returncode) == (said, 143), (heard, waits.returncode))
-        status, out, err = copy.run()
-        self.check("the second waits", (status, out, err) == (0, b"built: report\n", said), (status, out, err))
+        second = copy.start()
+        heard = second.stderr.readline()
+        copy.go.touch()
+        out, err = second.communicate(timeout=SOON)
+        found = (second.returncode, out, heard + err)
+        self.check("the second waits", found == (0, b"built: report\n", said), found)
         out = first.communicate(timeout=SOON)[0]
         self.check("both run one build", (out, copy.builds()) == (b"built: report\n", 1), (out, copy.builds()))
 
@@ -343,19 +365,21 @@ class Install(programs.Checks):
         """On a terminal one line tells how far the build is, and is written over."""
         copy = Copy(self.room, "terminal")
         terminal, side = pty.openpty()
-        started = copy.start(2, stderr=side)
+        started = copy.start(stderr=side, slow="hh_stream")
         os.close(side)
-        out = started.communicate(timeout=SOON)[0]
-        said = b""
+        line = rb"\r\x1b\[Kheavy: \d+:\d\d min, \d+ of \d+ crates proved, [a-z_, ]*hh_stream"
+        said, told = b"", 0
         try:
             while part := os.read(terminal, 4096):
                 said += part
+                told = len(re.findall(line, said))
+                if told > 1:
+                    copy.go.touch()
         except OSError:
             pass  # the other side is closed
         os.close(terminal)
+        out = started.communicate(timeout=SOON)[0]
         said = said.replace(b"\r\n", b"\n")
-        line = rb"\r\x1b\[Kheavy: 0:0\d min, \d+ of \d+ crates proved, [a-z_, ]*hh_stream"
-        told = len(re.findall(line, said))
         self.check("a terminal's line is written over", out == b"built: report\n" and told > 1, said)
         self.check("nothing of it is left", said.count(b"\n") == 3 and b"\r\x1b[Kheavy: built in " in said, said)
 
