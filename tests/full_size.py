@@ -16,20 +16,17 @@ import reference
 
 RECORDS = b"a,5\nb,3\nc,2\na,1\n"
 MOST_K = 65_535
-# A run over little input that takes more processor time than this spins.
-IDLE = 1.0
-
-
 # how many parts a text has that is read part by part, and fewer reads than so many are made besides, most to start a program
 PARTS, STARTING = 64, 32
 
 
-def reads_of(words: list[str], records: BinaryIO) -> int:
-    """How many reads a program makes by the kernel's count, from its start to its end, with these records on standard input."""
-    running = subprocess.Popen(words, stdin=records, stdout=subprocess.DEVNULL)
+def reads_of(words: list[str], records: BinaryIO | int, status: int = 0) -> int:
+    """How many reads a program makes by the kernel's count, from its start to its end, with these records on standard input.
+    It ends with this status."""
+    running = subprocess.Popen(words, stdin=records, stdout=subprocess.DEVNULL, stderr=subprocess.DEVNULL)
     os.waitid(os.P_PID, running.pid, os.WEXITED | os.WNOWAIT)
     counted = re.search(r"syscr: (\d+)", Path(f"/proc/{running.pid}/io").read_text())
-    assert running.wait() == 0, words
+    assert running.wait() == status, words
     return int(counted[1])
 
 
@@ -193,7 +190,7 @@ class FullSize(programs.Checks):
                 self.check(f"{words[0]} of {name}: {reads} reads", PARTS < reads < PARTS + STARTING, reads)
 
     def test_readers(self) -> None:
-        """A reader that is interrupted 100,000 times reads on; one that would block is a fault, at once."""
+        """A reader that is interrupted 100,000 times reads on; one that would block is a fault, and isn't asked again."""
         library = programs.preloaded("interrupt.c", self.room)
         counters = self.save("four.heavy", reference.summarise(RECORDS, 2))
         for words, out in [
@@ -214,11 +211,13 @@ class FullSize(programs.Checks):
             os.set_blocking(ear, False)
             os.write(mouth, b"a,5\n")
             ended = self.heavy(words, stdin=ear)
+            said = (ended.status, ended.out, ended.err)
+            self.check(f"{words[0]} of a reader that would block", said == (1, b"", b"heavy: input could not be read\n"), said)
+            os.write(mouth, b"a,5\n")
+            reads = reads_of([self.program, *words], ear, 1)
+            self.check(f"{words[0]} of a reader that would block makes {reads} reads", reads < STARTING, reads)
             os.close(ear)
             os.close(mouth)
-            said = (ended.status, ended.out, ended.err, ended.seconds)
-            right = said[:3] == (1, b"", b"heavy: input could not be read\n") and ended.seconds < IDLE
-            self.check(f"{words[0]} of a reader that would block", right, said)
 
 
 if __name__ == "__main__":

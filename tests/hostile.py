@@ -11,8 +11,7 @@ import corpus
 import programs
 import reference
 
-# A run that takes more processor time is wrong, whatever it answers; and no run has more address space.
-MOST_SECONDS = 1.0
+# No run has more address space.
 KILOBYTES = "100000"
 LIMITED = ["sh", "-c", 'ulimit -v "$0"; exec "$@"', KILOBYTES]
 
@@ -67,8 +66,6 @@ def ran(program: str, room: str, number: int, case: Case) -> str | None:
     expected = (status, out, err.replace(reference.SAVED, f"{room}/{number}-0".encode()))
     if said != expected:
         return f"{said} in place of {expected}"
-    if ended.seconds > MOST_SECONDS:
-        return f"{ended.seconds:.2f} seconds"
     return None
 
 
