@@ -1,14 +1,17 @@
 #!/usr/bin/env python3
 """Asks each command that reads records to tell how far it is: what it tells of a pipe and of a file, how often, and
-that it answers the same. Without the option nothing is told.
+that it answers the same. Without the option nothing is told. The clock moves as a test says, so that no line depends on how
+fast a machine is.
 
 usage: tests/progress.py
 """
+import array
+import fcntl
+import itertools
 import os
 import re
-import signal
 import subprocess
-import tempfile
+import termios
 import time
 from pathlib import Path
 
@@ -16,49 +19,45 @@ import programs
 
 READ = rb"heavy: (\d+\.\d) MB and (\d+) records read, \d+\.\d MB/s"
 PIPE = re.compile(READ + rb"\n")
-FILE = re.compile(READ + rb", (\d+) % of (\d+\.\d) MB, \d+ s left\n")
 # of files that are named, which workers read
 NAMED = re.compile(rb"heavy: \d+\.\d MB read( in two passes)?, \d+\.\d MB/s(?:, (\d+) % of (\d+\.\d) MB, \d+ s left)?\n")
 PART = b"".join(b"key%d,%d\n" % (number % 977, number) for number in range(1, 20_000))
-STEPS = 14
-SECONDS = 0.2  # between the parts that a pipe is given
-STOPPED = 1.3  # seconds, more than the pause between two lines
-TRIES = 5
+# bytes that are read at once
+AT_ONCE = 65_536
+# milliseconds by which a look at the clock moves it, one at each read: so that a second has passed at every third read
+STEP, LOOKS = 400, 3
+# a part that a pipe takes whole, and how many are written
+SMALL, STEPS = b"key0001,1\n" * 5_000, 14
 
 
-def stopped_in_file(words: list[str], path: Path) -> list[bytes]:
-    """What a run over a file tells that is stopped for more than a second after its first read."""
-    with open(path, "rb") as records:
-        running = subprocess.Popen(words, stdin=records, stdout=subprocess.DEVNULL, stderr=subprocess.PIPE, env={})
-        # the offset is shared with the program's standard input
-        while os.lseek(records.fileno(), 0, os.SEEK_CUR) == 0 and running.poll() is None:
-            time.sleep(0.001)
-        running.send_signal(signal.SIGSTOP)
-        time.sleep(STOPPED)
-        running.send_signal(signal.SIGCONT)
-        return running.communicate()[1].splitlines(keepends=True)
+def megabytes(count: int) -> bytes:
+    return b"%d.%d MB" % (count // 1_000_000, count % 1_000_000 // 100_000)
 
 
-def bytes_read(process: int) -> int:
-    """How many bytes a process has read; it may have ended."""
-    try:
-        return int(re.search(r"rchar: (\d+)", Path(f"/proc/{process}/io").read_text())[1])
-    except OSError:
-        return 0
+def line(text: bytes, read: int, millis: int, size: int | None = None) -> bytes:
+    """What is told when so many bytes of a text were read after so many milliseconds, and of a file with its size."""
+    records = text.count(b"\n", 0, read) + (text[read - 1 : read] not in (b"", b"\n"))
+    told = b"heavy: %b and %d records read, %b/s" % (megabytes(read), records, megabytes(read * 1000 // millis))
+    if size and read < size:
+        left = (size - read) * millis // read // 1000
+        told += b", %d %% of %b, %d s left" % (read * 100 // size, megabytes(size), left)
+    return told + b"\n"
 
 
-def stopped_in_named(words: list[str], path: Path) -> tuple[bytes, list[bytes]]:
-    """What a run over a named file answers, and tells that is stopped for more than a second after a tenth of it."""
-    with tempfile.TemporaryFile() as out:
-        running = subprocess.Popen([*words, str(path)], stdin=subprocess.DEVNULL, stdout=out, stderr=subprocess.PIPE, env={})
-        while bytes_read(running.pid) < path.stat().st_size / 10 and running.poll() is None:
-            time.sleep(0.001)
-        running.send_signal(signal.SIGSTOP)
-        time.sleep(STOPPED)
-        running.send_signal(signal.SIGCONT)
-        told = running.communicate()[1].splitlines(keepends=True)
-        out.seek(0)
-        return out.read(), told
+def waited(what: str, holds) -> None:
+    """Waits until it holds."""
+    for _ in range(programs.HANGS * 1000):
+        if holds():
+            return
+        time.sleep(0.001)
+    raise TimeoutError(f"waited in vain for {what}")
+
+
+def unread(pipe: int) -> int:
+    """How many bytes of a pipe nobody has read yet."""
+    count = array.array("i", [0])
+    fcntl.ioctl(pipe, termios.FIONREAD, count)
+    return count[0]
 
 
 # the commands that read records and no saved file
@@ -71,6 +70,11 @@ class Progress(programs.Checks):
     def setUp(self) -> None:
         super().setUp()
         self.program = programs.built("heavy_cli")
+        self.clock = programs.preloaded("clock.c", self.room)
+
+    def at(self, step: int) -> dict[str, str]:
+        """The environment of a run whose clock moves so."""
+        return {"LD_PRELOAD": self.clock, "CLOCK_STEP": str(step)}
 
     def by_summary(self, text: bytes) -> dict[str, list[str]]:
         """The commands that read records by a saved summary, which is of this text."""
@@ -78,24 +82,33 @@ class Progress(programs.Checks):
         Path(file).write_bytes(programs.run([self.program, "summarise"], text).out)
         return {name: [name, file] for name in ("condense", "confirm")}
 
+    def fed(self, words: list[str], parts: list[bytes], step: int) -> list[bytes]:
+        """What a run tells whose standard input is a pipe, and that reads each of these parts at once."""
+        running = subprocess.Popen([self.program, *words, "--progress"], stdin=subprocess.PIPE, stdout=subprocess.DEVNULL,
+                                   stderr=subprocess.PIPE, env=self.at(step), bufsize=0)
+        for part in parts:
+            running.stdin.write(part)
+            waited("the reader of a pipe", lambda: unread(running.stdin.fileno()) == 0 or running.poll() is not None)
+        return running.communicate(timeout=programs.HANGS)[1].splitlines(keepends=True)
+
     def test_layouts(self) -> None:
         """Records are counted as they are read: between fields of one's own, without a header, and behind a byte order mark."""
-        program = programs.built("heavy_cli")
         for words, text, number in [
             ([], b"a,1\nb\n\n", 2), (["--header"], b"k,w\na,1\nb,2\n", 2), (["--header"], b"k\n", 0), (["--header"], b"", 0),
             (["--delimiter", ";", "--key", "2"], b'x;"a\nb"\ny;"c\n"\n', 2), (["--delimiter", "\\t", "--key", "2"], b'x\t"a\n\nb"\n', 1),
             ([], b'\xef\xbb\xbf"a\nb",1\n', 1), ([], b"\xef\xbb\xbf", 0), ([], b"\xef\xbb\xbfa", 1), ([], b"\xef\xbb\nb\n", 2),
         ]:
-            ended = programs.run([program, "summarise", "--progress", *words], text)
+            ended = programs.run([self.program, "summarise", "--progress", *words], text)
             told = PIPE.fullmatch(ended.err.splitlines(keepends=True)[-1]) if ended.err else None
             self.check(f"{words} {text}", (ended.status, told and int(told[2])) == (0, number), ended)
 
     def test_answers(self) -> None:
-        """The same answer with the option and without it, also for records that are refused; one line at the end."""
+        """The same answer with the option and without it, also for records that are refused; one line at the end, where no time
+        passes."""
         for text in (PART, PART + b"bad,record,here\n", b""):
             for name, words in {**COMMANDS, **self.by_summary(PART)}.items():
                 plain = programs.run([self.program, *words], text)
-                told = programs.run([self.program, *words, "--progress"], text)
+                told = programs.run([self.program, *words, "--progress"], text, self.at(0))
                 same = (plain.status, plain.out) == (told.status, told.out)
                 self.check(f"{name} answers the same", same, (plain.status, told.status))
                 rest = PIPE.sub(b"", told.err)
@@ -113,53 +126,49 @@ class Progress(programs.Checks):
             (b"\n\na\n\n\nb\n\n", b"2"), (b'"a\nb",1\nc,2\n', b"2"), (b'"a""\n""b",1\nc,2\n', b"2"),
             (b'a"b\nc"d\n', b"2"), (b'"a"b\nc\n', b"2"),
         ]:
-            ended = programs.run([self.program, "table", "--progress"], text)
-            told = {found for _, found in PIPE.findall(ended.err)}
-            self.check(f"records counted in {text}", (ended.status, told) == (0, {count}), ended.err)
+            ended = programs.run([self.program, "table", "--progress"], text, self.at(0))
+            told = [found for _, found in PIPE.findall(ended.err)]
+            self.check(f"records counted in {text}", (ended.status, told) == (0, [count]), ended.err)
         for first, second in [(b'a,"1\n', b'"\nb,2\n'), (b",", b"\n,\n")]:
-            running = subprocess.Popen([self.program, "table", "--progress"], stdin=subprocess.PIPE, stdout=subprocess.PIPE,
-                                       stderr=subprocess.PIPE, env={})
-            running.stdin.write(first)
-            running.stdin.flush()
-            time.sleep(STOPPED)
-            told = running.communicate(second)[1]
-            found = {count for _, count in PIPE.findall(told)}
-            self.check(f"records counted in {first + second}, which are refused", found == {b"2"}, told)
-
-    def try_pipe(self, name: str, words: list[str]) -> None:
-        """A slow pipe: at most a line a second and one at the end, with more bytes each time, and no share."""
-        begun = time.monotonic()
-        running = subprocess.Popen([self.program, *words, "--progress"], stdin=subprocess.PIPE, stdout=subprocess.DEVNULL,
-                                   stderr=subprocess.PIPE, env={})
-        for _ in range(STEPS):
-            running.stdin.write(PART)
-            running.stdin.flush()
-            time.sleep(SECONDS)
-        told = running.communicate()[1].splitlines(keepends=True)
-        seconds = time.monotonic() - begun
-        read = [(float(found[1]), int(found[2])) for line in told if (found := PIPE.fullmatch(line))]
-        self.check(f"{name} tells of a pipe", len(read) == len(told) > 1, told)
-        self.check(f"{name} tells once a second", len(told) - 1 <= seconds, (told, seconds))
-        grows = read == sorted(read) and read[-1] == (len(PART) * STEPS // 100_000 / 10, 19_999 * STEPS)
-        self.check(f"{name} tells more each time", grows, read)
+            told = self.fed(["table"], [first, second], 1000)
+            found = [read[2] for read in map(PIPE.fullmatch, told) if read]
+            self.check(f"records counted in {first + second}, which are refused", found[:2] == [b"1", b"2"], told)
 
     def test_pipes(self) -> None:
-        """A slow pipe, into each command that reads records once."""
-        for name, words in {"summarise": ["summarise"], **self.by_summary(PART * STEPS)}.items():
-            self.try_pipe(name, words)
+        """A pipe, into each command that reads records once: a line a second, and one at the end, with no share."""
+        whole = SMALL * STEPS
+        reads = [number * len(SMALL) for number in range(LOOKS, STEPS + 1, LOOKS)]
+        wanted = [line(whole, read, STEP * read // len(SMALL)) for read in reads] + [line(whole, len(whole), STEP * (STEPS + 1))]
+        # 14 parts of 50,000 bytes: after the third, at 1.2 seconds, and after their end, at 6 seconds
+        by_hand = [b"heavy: 0.1 MB and 15000 records read, 0.1 MB/s\n", b"heavy: 0.7 MB and 70000 records read, 0.1 MB/s\n"]
+        self.check("what is wanted of a pipe", [wanted[0], wanted[-1]] == by_hand and len(wanted) == 5, wanted)
+        for name, words in {"summarise": ["summarise"], **self.by_summary(whole)}.items():
+            told = self.fed(words, [SMALL] * STEPS, STEP)
+            self.check(f"{name} tells of a pipe", told == wanted, told)
 
     def test_file(self) -> None:
-        """A file, as the standard input of each command."""
-        many = Path(self.room, "many.csv")
-        many.write_bytes(PART * 100)
-        for name, words in {**COMMANDS, **self.by_summary(PART * 100)}.items():
-            self.try_file(name, words, many)
+        """A file, as the standard input of each command: the share that is read, and the time left, once a second, and the whole
+        at the end."""
+        text = PART * 20
+        size, reads = len(text), -(-len(text) // AT_ONCE)
+        wanted = [line(text, min(size, AT_ONCE * number), STEP * number, size) for number in range(LOOKS, reads + 1, LOOKS)]
+        wanted.append(line(text, size, STEP * (reads + 1), size))
+        # of 4,931,460 bytes 196,608 after the third read, at 1.2 seconds; the others take 28.9 seconds at that rate
+        by_hand = b" records read, 0.1 MB/s, 3 % of 4.9 MB, 28 s left\n"
+        self.check("what is wanted of a file", wanted[0].startswith(b"heavy: 0.1 MB and ") and wanted[0].endswith(by_hand), wanted[0])
+        path = Path(self.room, "many.csv")
+        path.write_bytes(text)
+        for name, words in {**COMMANDS, **self.by_summary(text)}.items():
+            with open(path, "rb") as records:
+                ended = programs.run([self.program, *words, "--progress"], env=self.at(STEP), stdin=records)
+            told = ended.err.splitlines(keepends=True)
+            self.check(f"{name} tells of a file", (ended.status, told) == (0, wanted), told)
 
     def test_named_file(self) -> None:
         """A file that is named, which workers read: the share of one pass, or of the two of a report, and the same answer."""
         many = Path(self.room, "many.csv")
-        many.write_bytes(PART * 100)
-        for name, words in {**COMMANDS, **self.by_summary(PART * 100)}.items():
+        many.write_bytes(PART * 20)
+        for name, words in {**COMMANDS, **self.by_summary(PART * 20)}.items():
             if name != "summarise":
                 self.try_named_file(name, [self.program, *words], many, 2 if name == "report" else 1)
 
@@ -167,27 +176,19 @@ class Progress(programs.Checks):
         size = path.stat().st_size * passes
         wanted = (b" in two passes" if passes == 2 else None, b"%d.%d" % (size // 1_000_000, size % 1_000_000 // 100_000))
         plain = programs.run([*words, str(path)])
-        for _ in range(TRIES):  # on a busy machine a run may be over before it is stopped
-            out, told = stopped_in_named([*words, "--progress"], path)
-            found = [(found[1], found[3], int(found[2])) for line in told if (found := NAMED.fullmatch(line)) and found[2]]
-            if found:
-                break
-        holds = found and all((pass_, of) == wanted and share < 100 for pass_, of, share in found)
-        self.check(f"{name} tells a named file's share", holds, told)
-        self.check(f"{name} of a named file tells nothing else", all(map(NAMED.fullmatch, told)), told)
-        self.check(f"{name} of a named file answers the same", (plain.status, plain.out, plain.err) == (0, out, b""), plain.err)
-
-    def try_file(self, name: str, words: list[str], path: Path) -> None:
-        """A file: the share that is read, and the time left."""
-        size = b"%d.%d" % (path.stat().st_size // 1_000_000, path.stat().st_size % 1_000_000 // 100_000)
-        for _ in range(TRIES):  # on a busy machine a run may be over before it is stopped
-            told = stopped_in_file([self.program, *words, "--progress"], path)
-            shares = [(found[3], found[4]) for line in told if (found := FILE.fullmatch(line))]
-            if shares:
-                break
-        holds = shares and all(int(share) < 100 and of == size for share, of in shares)
-        self.check(f"{name} tells a file's share", holds and PIPE.fullmatch(told[-1]), told)
-        self.check(f"{name} has shares alone before the end", len(shares) == len(told) - 1, told)
+        for workers in ("1", "3"):
+            told = programs.run([*words, "--workers", workers, "--progress", str(path)], env=self.at(STEP))
+            lines = told.err.splitlines(keepends=True)
+            found = [read for read in map(NAMED.fullmatch, lines) if read and read[2]]
+            right = len(found) > 5 and all((read[1], read[3]) == wanted for read in found)
+            self.check(f"{name} of a named file by {workers} tells its share", right, lines)
+            # several workers may tell in another order than they read
+            shares = [int(read[2]) for read in found]
+            grows = workers != "1" or all(one <= next for one, next in itertools.pairwise(shares))
+            self.check(f"{name} of a named file by {workers} tells more each time", grows and max(shares) < 100, shares)
+            self.check(f"{name} of a named file by {workers} tells nothing else", all(map(NAMED.fullmatch, lines)), lines)
+            self.check(f"{name} of a named file by {workers} answers the same", (told.status, told.out) == (0, plain.out), told.status)
+        self.check(f"{name} of a named file tells nothing unasked", (plain.status, plain.err) == (0, b""), plain)
 
 
 if __name__ == "__main__":
