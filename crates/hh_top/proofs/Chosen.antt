@@ -231,10 +231,11 @@ module _ (n f : ℕ) (t : TallyView) (is : f ≡ floor_of n t) (counts : Count) 
   are_top enough first is = is ∙ first_rows xs n f rows rows_are_over enough
 
   -- where they are fewer, they are certain, and no others
-  pub are_uncertain : 2 * (max_k + 1) ≤ t.room.few → IsLoss t.room.few t.total t.lost t.counters → length rows < n
+  pub are_uncertain : 2 * (max_k + 1) ≤ t.room.few → IsLoss t.room.few t.total t.lost t.counters → 0 < f → length rows < n
       → IsUncertain xs n max_k (length rows) f
-  are_uncertain share loss few = record {
+  are_uncertain share loss some few = record {
     few = few;
+    some = some;
     counted = ap length rows_are_over;
     little = rw is (floor_is_little n t xs bounds share loss (rw (← is) (omega (arith, few, ap length rows_are_over))));
   }

@@ -56,10 +56,11 @@ floor_of n t = max (most_uncounted t) (nth_counter n t - 1)
 abbrev pub chosen_of : ℕ → TallyView → Counters
 chosen_of n t = filter (exceeds (floor_of n t - t.lost)) (tally t.counters)
 
--- of the n greatest keys only the first are certain, fewer than n: just these weigh more than `most`, which is at most what
--- k counters leave open
+-- of the n greatest keys only the first are certain, fewer than n: just these weigh more than `most`, which is more than 0
+-- and at most what k counters leave open
 pub record IsUncertain (xs : List Entry) (n k certain most : ℕ) : Type 0 where
   pub few : certain < n
+  pub some : 0 < most
   pub counted : certain ≡ length (rows_over most (tally xs))
   pub little : (k + 1) * most ≤ total_of xs
 

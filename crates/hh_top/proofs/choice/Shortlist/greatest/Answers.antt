@@ -25,7 +25,8 @@ returns-then-len-self-clause-refused c = λ xs bounds counted.
     c.self.view_is c.lost-lost.ensures.loss in
     subst (λ certain. IsUncertain xs n max_k certain f) (omega (arith, c.len-then-len-self.ensures))
     (are_uncertain n f t c.floor-floor.ensures c.args.counts.now c.requires.keys c.in_ok-rows.rows.items
-    c.in_ok-rows.ensures xs bounds counted share loss (omega (arith, c.if-len-self.true, c.len.ensures, same)))
+    c.in_ok-rows.ensures xs bounds counted share loss (omega (arith, c.if-floor-gt0.true))
+    (omega (arith, c.if-len-self.true, c.len.ensures, same)))
 
 pub returns-then-len-self-clause-sure : goal.returns-then-len-self-clause-sure
 returns-then-len-self-clause-sure c = λ out xs bounds counted.
