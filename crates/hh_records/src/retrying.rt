@@ -9,8 +9,8 @@ use std::io;
 use std::io::{Error, ErrorKind, Read, Write};
 
 // Nothing says that a device is ever done with interruptions, and each call ends: so there is a
-// most of tries, as in the standard library.
-const MOST_TRIES: u64 = u64::MAX;
+// most of tries, one after the other, after which the call fails.
+const MOST_TRIES: u64 = 1_000_000;
 
 /// A reader whose reads are tried again where a signal interrupts them. It has the bytes of the
 /// reader that it is made of.
