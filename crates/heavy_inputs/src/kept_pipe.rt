@@ -5,6 +5,7 @@ ghost use Rattle.std.specs.Prelude.{◌≡◌, ◌⊎◌, IfErr, ⊤};
 use heavy_host::Unread;
 use hh_faults::ToolError;
 use hh_pieces::ReadAt;
+use hh_records::retrying::Retrying;
 use std::env;
 use std::fs::{self, File, OpenOptions};
 use std::io::{self, Read, Write};
@@ -115,7 +116,6 @@ fn keep_in_file<R: Read + Drop>(
                 file.write_all(buffer.get(..count).unwrap_or(&[]))?;
                 len = len.saturating_add(count as u64);
             }
-            Err(error) if matches!(error.kind(), io::ErrorKind::Interrupted) => {}
             Err(_) => {
                 is_whole = false;
                 break;
@@ -131,13 +131,14 @@ fn keep_in_file<R: Read + Drop>(
 /// is noted in `unread`.
 pub(crate) fn keep_pipe<R: Read + Drop>(
     rt: &HostRuntime,
-    mut pipe: R,
+    pipe: R,
     most: u64,
     unread: &Unread,
 ) -> Result<KeptPipe, ToolError>
     ensures refused { IfErr result (λ fault.
         (fault ≡ ToolError.Memory) ⊎ (fault ≡ ToolError.ReadFault)) }
 {
+    let mut pipe = Retrying::new(pipe);
     let mut bytes = Vec::new(rt.alloc());
     let is_whole = match (&mut pipe)
         .take(most.saturating_add(1))
