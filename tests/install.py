@@ -45,7 +45,7 @@ echo "$KIT/START-HERE.md"
 """
 # The compiler of that toolchain. It tells what rattle tells, notes what it does, and leaves a library, or of the program
 # an object. Of a slow crate it waits, with a process below it, until the file GO is there or those of ALL have begun; and a
-# crate that fails fails once such a process was noted, where there are slow ones.
+# crate that fails fails once such a process was noted, where there are slow ones. It waits at most SOON seconds.
 COMPILER = """#!/usr/bin/env bash
 echo "$*" >> "$CALLS"
 while [ $# -gt 0 ]; do
@@ -62,16 +62,17 @@ case $name in
   heavy_oom) echo calls >> "$RUNS" ;;
 esac
 echo "begin $name --jobs $jobs" >> "$PROOFS"
+is_late() { [ "$SECONDS" -gt "$SOON" ]; }
 all_begun() {
   [ -n "$ALL" ] || return 1
   for one in $ALL; do grep -q "^begin $one " "$PROOFS" || return 1; done
 }
 if [[ " $SLOW " == *" $name "* ]]; then
-  { until [ -e "$GO" ] || all_begun; do sleep 0.05; done; } &
+  { until [ -e "$GO" ] || all_begun || is_late; do sleep 0.05; done; } &
   echo $! >> "$CHILDREN"
   wait
 fi
-if [ "$name" = "$FAILING" ] && [ -n "$SLOW" ]; then until [ -s "$CHILDREN" ]; do sleep 0.05; done; fi
+if [ "$name" = "$FAILING" ] && [ -n "$SLOW" ]; then until [ -s "$CHILDREN" ] || is_late; do sleep 0.05; done; fi
 echo "end $name" >> "$PROOFS"
 echo "the stand-in's last line"
 [ "$name" != "$FAILING" ] || exit 1
@@ -128,7 +129,7 @@ class Copy:
         return {
             "PATH": path or self.path, "RUNS": str(self.runs), "CHILDREN": str(self.children), "GO": str(self.go), "ALL": all_of,
             "PROOFS": str(self.proofs), "CALLS": str(self.calls), "OUTCOME": str(outcome), "KIT": str(self.kit),
-            "SLOW": slow, "FAILING": failing, "PROCESSORS": str(processors),
+            "SLOW": slow, "FAILING": failing, "PROCESSORS": str(processors), "SOON": str(SOON),
         }
 
     def add_library(self) -> None:
@@ -179,9 +180,9 @@ class Copy:
         out, err = started.communicate(timeout=SOON)
         return started.returncode, out, err
 
-    def run_until(self, told: bytes, slow: str) -> tuple[int, bytes, bytes]:
-        """The same, of which a crate takes until a line on standard error has these bytes."""
-        started = self.start(slow=slow)
+    def run_until(self, told: bytes, **how) -> tuple[int, bytes, bytes]:
+        """The same, of which slow crates take until a line on standard error has these bytes."""
+        started = self.start(**how)
         lines = [started.stderr.readline()]
         while lines[-1] and told not in lines[-1]:
             lines.append(started.stderr.readline())
@@ -249,7 +250,7 @@ class Install(programs.Checks):
     def test_builds(self) -> None:
         """A first build says what it does; the next run builds nothing and says nothing; a changed source is built."""
         copy = Copy(self.room, "builds")
-        status, out, err = copy.run_until(b"proving hh_stream", "hh_stream")
+        status, out, err = copy.run_until(b"proving hh_stream", slow="hh_stream")
         self.check("a first build runs the program", (status, out) == (0, b"built: report\n"), (status, out, err))
         self.check("it says at once what it does", err.startswith(BEGIN), err)
         begun, crates = copy.begun(), sorted({*crates_below("heavy_cli"), "heavy_cli"})
@@ -285,17 +286,21 @@ class Install(programs.Checks):
         """Crates that don't stand on each other are proved at once, and each after those below it; one at a time on one
         processor."""
         one, other = ["hh_counters", "hh_countmin", "hh_records"], ["hh_pool", "hh_saved"]
-        for processors, slow in ((4, one), (4, other), (1, [])):
+        for processors, slow in ((4, one), (4, other), (1, ["hh_countmin"])):
             name = f"{processors} with {slow}"
-            copy = Copy(self.room, f"order{len(slow)}")
-            # each of the slow ones takes until all of them have begun, so that the build ends if they are proved at once
-            status, out, err = copy.run(slow=" ".join(slow), all_of=" ".join(slow), processors=processors)
+            copy, how = Copy(self.room, f"order{len(slow)}"), {"slow": " ".join(slow), "processors": processors}
+            if processors == 4:
+                # each of the slow ones takes until all of them have begun, so that the build ends soon if they are proved at once
+                status, out, err = copy.run(all_of=how["slow"], **how)
+            else:
+                status, out, err = copy.run_until(b"proving hh_countmin", **how)
             lines = [line.split() for line in copy.proof_lines()]
             self.check(f"a build on {name}", (status, out) == (0, b"built: report\n"), (status, out, err))
             at = {(words[0], words[1]): place for place, words in enumerate(lines)}
             after = all(at["end", it] < at["begin", name] for _, name in at for it in crates_below(name))
             self.check(f"crates below come first on {name}", after, lines)
             met = all(at["begin", a] < at["end", b] for a in slow for b in slow)
+            # one at a time
             alone = [words[0] for words in lines] == ["begin", "end"] * (len(lines) // 2)
             self.check(f"proved at once on {name}", met and alone == (processors == 1), lines)
             jobs = {words[1]: int(words[3]) for words in lines if words[0] == "begin"}
