@@ -8,7 +8,7 @@ use crate::fixtures::assert_same;
 use heavy::{
     Comparison, Layout, Method, Out, ReadAt, ReportOptions, RowOptions, Share, SourceRecords,
     ToolError, Tree, condense_files, confirm_files, report_files, summarise_files, summary_bytes,
-    table_bytes, table_files,
+    table_files,
 };
 use std::io::{self, Error, ErrorKind, Read};
 use std::process::Abort;
@@ -270,11 +270,20 @@ fn files_are_confirmed_by_workers(rt: HostRuntime) {
     assert_same(&rt, rows.as_slice(), b"a,7\n".as_slice());
 }
 
+/// The table of the records, by hand: width and depth, the family that seed 3 draws, the total, and
+/// two rows of cells.
+const TABLE_OF_TEXT: &[u8] = b"HHS2\x02\0\0\0\x04\x02\
+    \x0d\x32\x82\x33\x88\x78\xbf\x74\
+    \x19\xf9\xa1\xb2\x8c\x2f\xab\x15\x1c\x95\xa2\x72\x88\x17\x2d\x3e\
+    \x16\x0a\x40\x4c\xb8\x2a\x54\x85\x0b\xef\x0b\x28\xe2\x3e\x58\xb5\
+    \0\0\0\0\0\0\0\x08\
+    \0\0\0\0\0\0\0\x07\0\0\0\0\0\0\0\0\0\0\0\0\0\0\0\x01\0\0\0\0\0\0\0\0\
+    \0\0\0\0\0\0\0\x01\0\0\0\0\0\0\0\0\0\0\0\0\0\0\0\x07\0\0\0\0\0\0\0\0";
+
 #[test]
 fn files_are_tabulated_by_workers(rt: HostRuntime) {
     let table = made_of_text(&rt, Verb::Table);
-    let expected = table_bytes(rt.alloc(), 4, 2, 3, TEXT).expect(&rt, "a table");
-    assert_same(&rt, table.as_slice(), expected.as_slice());
+    assert_same(&rt, table.as_slice(), TABLE_OF_TEXT);
 }
 
 /// What a growing file has in the end. Its second record comes once its pieces were cut.
@@ -322,14 +331,23 @@ fn made_of(
     made_by(rt, verb, GROWN, records)
 }
 
+/// The summary and the table of what the growing file has in the end, by hand.
+const SUMMARY_OF_GROWN: &[u8] = b"HHS2\x01\0\x01\0\0\0\0\0\0\0\x07\0\x01\0\x01a\0\0\0\0\0\0\0\x07";
+
+const TABLE_OF_GROWN: &[u8] = b"HHS2\x02\0\0\0\x04\x02\
+    \x0d\x32\x82\x33\x88\x78\xbf\x74\
+    \x19\xf9\xa1\xb2\x8c\x2f\xab\x15\x1c\x95\xa2\x72\x88\x17\x2d\x3e\
+    \x16\x0a\x40\x4c\xb8\x2a\x54\x85\x0b\xef\x0b\x28\xe2\x3e\x58\xb5\
+    \0\0\0\0\0\0\0\x07\
+    \0\0\0\0\0\0\0\x07\0\0\0\0\0\0\0\0\0\0\0\0\0\0\0\0\0\0\0\0\0\0\0\0\
+    \0\0\0\0\0\0\0\0\0\0\0\0\0\0\0\0\0\0\0\0\0\0\0\x07\0\0\0\0\0\0\0\0";
+
 /// What is made of the bytes that the growing file has in the end.
-fn made_of_grown(rt: &(impl Abort + AllocGlobal), verb: Verb) -> Vec<u8> {
+fn made_of_grown(verb: Verb) -> &'static [u8] {
     match verb {
-        Verb::Report | Verb::Condense | Verb::Confirm => {
-            Vec::from_slice(rt.alloc(), b"a,7\n").expect(rt, "rows")
-        }
-        Verb::Summarise(_) => summary_of(rt, GROWN),
-        Verb::Table => table_bytes(rt.alloc(), 4, 2, 3, GROWN).expect(rt, "a table"),
+        Verb::Report | Verb::Condense | Verb::Confirm => b"a,7\n",
+        Verb::Summarise(_) => SUMMARY_OF_GROWN,
+        Verb::Table => TABLE_OF_GROWN,
     }
 }
 
@@ -337,7 +355,7 @@ fn made_of_grown(rt: &(impl Abort + AllocGlobal), verb: Verb) -> Vec<u8> {
 fn growing_files_are_read_on(rt: HostRuntime) {
     for verb in &VERBS {
         let made = made_of(&rt, *verb, false).expect(&rt, "bytes");
-        assert_same(&rt, made.as_slice(), made_of_grown(&rt, *verb).as_slice());
+        assert_same(&rt, made.as_slice(), made_of_grown(*verb));
     }
 }
 
