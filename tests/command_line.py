@@ -237,9 +237,12 @@ class CommandLine(programs.Checks):
             (["-d", ";"], b"a;5\n"), (["-d;"], b"a;5\n"), (["-d-"], b"a-5\n"), (["--delimiter=-"], b"a-5\n"), (["-d", "\\t"], b"a\t5\n"),
             (["-H"], b"x,y\na,5\n"), (["-Hd;", "--key", "x", "--weight", "y"], b"x;y\na;5\n"),
         ]:
-            for command in ("report", "summarise", "table"):
-                plain = self.heavy([command], b"a,5\n")
-                self.expect([command, *words], plain, text)
+            self.expect(["report", *words], (0, b"a,5\n", b""), text)
+            self.expect(["summarise", *words], (0, reference.summarise(b"a,5\n", 100), b""), text)
+            table = table_in(self.heavy(["table", *words], text))
+            shape = table and (table.width, len(table.rows), table.total)
+            right = shape == (1024, 4, 5) and table.cells == cells_of(table, [(b"a", 5)])
+            self.check(f"table {words}", right, shape)
         self.save("day", ["summarise", "-k9"])
         self.expect(["confirm", "-n1", "-t1/4", "day"], (0, b"a,6\n", b""))
         self.expect(["condense", "-Hd;", "day"], (0, b"a,5\n", b""), b"x;y\na;5\n")
