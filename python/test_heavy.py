@@ -53,9 +53,12 @@ class Pages(unittest.TestCase):
             (heavy, heavy.__all__, ()), (heavy._options, ["share_of"], ()), (heavy.pandas, heavy.pandas.__all__, ("pandas",)),
             (heavy.dask, heavy.dask.__all__, ("dask", "pandas")),
         ):
-            for name in names if has(*wanted) else ():
-                for example in finder.find(getattr(module, name), name, module=False, globs={**vars(heavy), **vars(module)}):
-                    runner.run(example)
+            with self.subTest(module.__name__):
+                if not has(*wanted):
+                    self.skipTest(f"the examples of {module.__name__} want {' and '.join(wanted)}")
+                for name in names:
+                    for example in finder.find(getattr(module, name), name, module=False, globs={**vars(heavy), **vars(module)}):
+                        runner.run(example)
         self.assertEqual((runner.failures, runner.tries > 40), (0, True))
 
     def test_names(self) -> None:

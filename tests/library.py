@@ -146,8 +146,13 @@ class Library(programs.Checks):
         words = [python or sys.executable, "-B", "-m", "unittest", "-v", "test_heavy"]
         ran = subprocess.run(words, cwd=programs.TOP / "python", env=env, capture_output=True, text=True)
         self.check("the Python module", ran.returncode == 0, ran.stderr)
-        skipped = re.findall(r"skipped '(?:numpy|pandas) .*'$", ran.stderr, re.M)
-        self.check("its arrays", not python or not skipped, skipped)
+        skipped, counted = re.findall(r"skipped (['\"])(.*)\1$", ran.stderr, re.M), re.search(r"skipped=(\d+)", ran.stderr)
+        self.check("what it skips is told", len(skipped) == int(counted[1] if counted else 0), ran.stderr)
+        for _, why in skipped:
+            with self.subTest("the Python module"):
+                self.skipTest(why)
+        arrays = [why for _, why in skipped if why.startswith(("numpy ", "pandas "))]
+        self.check("its arrays", not python or not arrays, skipped)
 
     def try_pool(self, prefix: str) -> None:
         """The example of a pool of processes prints the program's report, in any number of parts, and its refusals."""
