@@ -117,6 +117,19 @@ if __name__ == "__main__":
 """
 
 
+# Waits until Dask's scheduler at an address has a task for which no worker is there.
+WAITS = """
+import sys, time, distributed
+
+def waiting(dask_scheduler):
+    return sum(task.state == "no-worker" for task in dask_scheduler.tasks.values())
+
+client = distributed.Client(sys.argv[1])
+while not client.run_on_scheduler(waiting):
+    time.sleep(0.1)
+"""
+
+
 class Pipe:
     """A part that is a pipe, which a worker opens in each pass. One of those that open it is killed."""
 
@@ -484,7 +497,7 @@ def try_places(test: programs.Checks, dask: Dask) -> None:
     example = subprocess.Popen(dask.example([here.path, f"10.0.0.9:{there.path}"]), env=room.env, cwd=room.path)
     try:
         waited("the other part", lambda: here.readers)
-        time.sleep(0.5)
+        room.run([dask.python, "-c", WAITS, dask.address]).check_returncode()
         test.check("a part waits for a worker at its address", example.poll() is None and not there.readers, there.readers)
     finally:
         example.kill()
