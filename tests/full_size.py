@@ -190,7 +190,8 @@ class FullSize(programs.Checks):
                 self.check(f"{words[0]} of {name}: {reads} reads", PARTS < reads < PARTS + STARTING, reads)
 
     def test_readers(self) -> None:
-        """A reader that is interrupted 100,000 times reads on; one that would block is a fault, and isn't asked again."""
+        """A reader that is interrupted 100,000 times reads on. One that is always interrupted is a fault, and so is one that
+        would block, which isn't asked again."""
         library = programs.preloaded("interrupt.c", self.room)
         counters = self.save("four.heavy", reference.summarise(RECORDS, 2))
         for words, out in [
@@ -206,6 +207,15 @@ class FullSize(programs.Checks):
             told = os.read(ear, 64)
             os.close(ear)
             self.check(f"the reader of {words[0]} was interrupted", told == b"all\n", told)
+        for words in (["report"], ["summarise"], ["table"]):
+            ear, mouth = os.pipe()
+            os.write(mouth, b"a,5\n")
+            os.close(mouth)
+            ended = self.heavy(words, stdin=ear, env={"LD_PRELOAD": library, "INTERRUPTS": str(10**15)})
+            os.close(ear)
+            said = (ended.status, ended.out, ended.err)
+            right = said == (1, b"", b"heavy: input could not be read\n")
+            self.check(f"{words[0]} of a reader that is always interrupted", right, said)
         for words in (["report"], ["summarise"], ["table"]):
             ear, mouth = os.pipe()
             os.set_blocking(ear, False)
