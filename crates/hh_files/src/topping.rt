@@ -8,7 +8,7 @@ ghost use Rattle.hh_workers.specs.Workers.{max_workers};
 ghost use Rattle.hh_pieces.specs.Sources.{sources_known};
 ghost use Rattle.hh_records.specs.Refusals.{RecordsRefused};
 ghost use Rattle.hh_commands.specs.Records.{CountsRecords};
-ghost use Rattle.hh_files.specs.TopFiles.{FindsTop, PrintsTop, TalliesRecords};
+ghost use Rattle.hh_files.specs.TopFiles.{FindsTop, IsSharedRoom, PrintsTop, TalliesRecords};
 ghost use Rattle.hh_files.specs.TopFiles.{TopFilesRefused, TopRefused};
 
 use crate::file_passes::count_sources;
@@ -49,6 +49,7 @@ fn shortlist_by<T: Threads + Wait + Sync, S: ReadAt + Sync>(
     requires room { IsRoom room }
     requires enough { 2 * (max_k + 1) ≤ room.few }
     ensures n { IfOk result (λ list. list.n ≡ options.now.n) }
+    ensures room { IfOk result (λ list. list.tally.room ≡ room) }
     ensures tally { IfOk result (λ list. TalliesRecords list.tally.room
         (sources_known S.bytes records.entry) list.tally) }
     ensures still { OnOk result (All S.still records.entry.sources.now) }
@@ -70,6 +71,7 @@ fn shortlist_of<T: Threads + Wait + Sync, S: ReadAt + Sync>(
 ) -> Result<Shortlist, ToolError>
     requires workers { in_range options.now.workers max_workers ≡ true }
     ensures n { IfOk result (λ list. list.n ≡ options.now.n) }
+    ensures room { IfOk result (λ list. IsSharedRoom options.now list.tally.room) }
     ensures tally { IfOk result (λ list. TalliesRecords list.tally.room
         (sources_known S.bytes records.entry) list.tally) }
     ensures still { OnOk result (All S.still records.entry.sources.now) }
