@@ -46,42 +46,85 @@ fn items_are_added_one_by_one(rt: HostRuntime) {
 #[test]
 fn k_is_1_to_65535(rt: HostRuntime) {
     for (k, refused) in &KS {
-        assert_same(
-            &rt,
-            (*k, Summary::new(rt.alloc(), *k).is_err()),
-            (*k, *refused),
-        );
+        let fault = Summary::new(rt.alloc(), *k).err();
+        assert_same(&rt, fault, refused.then_some(SummaryFault::BadK));
     }
 }
 
-// What comes of one more item a with this weight after the four records.
-fn raised(rt: &(impl Abort + AllocGlobal), weight: u64) -> (Option<SummaryFault>, String)
+// What the summary of the four records for k = 2 shows.
+const FOUR: &str = "a 4 b 1 of 11, slack 2";
+
+// What comes of one more item a with this weight.
+fn raised(
+    rt: &(impl Abort + AllocGlobal),
+    summary: &mut Summary,
+    weight: u64,
+) -> Option<SummaryFault>
     requires { 0 < weight }
 {
+    summary.add(&key_of(rt, b"a"), weight).err()
+}
+
+#[test]
+fn refused_summary_is_added_to_up_to_the_largest_total(rt: HostRuntime) {
+    let mut summary = summary_of(&rt, 2, &FOUR_RECORDS);
+    let fault = raised(&rt, &mut summary, MAX_TOTAL - 10);
+    assert_same(&rt, fault, Some(SummaryFault::TotalTooLarge));
+    assert_shows(&rt, &summary, FOUR);
+    let fault = raised(&rt, &mut summary, MAX_TOTAL - 11);
+    assert_same(&rt, fault, None);
+    let full = "a 9223372036854775800 b 1 of 9223372036854775807, slack 2";
+    assert_shows(&rt, &summary, full);
+}
+
+// The k and the items of another summary and what it shows; the fault of merging it into that of
+// the four records for k = 2, and what this shows then.
+const OTHERS: [(u64, &[(u8, u64)], &str, Option<SummaryFault>, &str); 4] = [
+    (
+        2,
+        &[(b'b', 2), (b'c', 3)],
+        "b 2 c 3 of 5, slack 0",
+        None,
+        "a 1 of 16, slack 5",
+    ),
+    (
+        3,
+        &[(b'b', 2), (b'c', 3)],
+        "b 2 c 3 of 5, slack 0",
+        Some(SummaryFault::DifferentK),
+        FOUR,
+    ),
+    (
+        2,
+        &[(b'b', MAX_TOTAL - 10)],
+        "b 9223372036854775797 of 9223372036854775797, slack 0",
+        Some(SummaryFault::TotalTooLarge),
+        FOUR,
+    ),
+    (
+        3,
+        &[(b'b', MAX_TOTAL - 10)],
+        "b 9223372036854775797 of 9223372036854775797, slack 0",
+        Some(SummaryFault::DifferentK),
+        FOUR,
+    ),
+];
+
+// The fault of merging the other summary into that of the four records, and what this shows then.
+fn merged(rt: &(impl Abort + AllocGlobal), other: &Summary) -> (Option<SummaryFault>, String) {
     let mut summary = summary_of(rt, 2, &FOUR_RECORDS);
-    let fault = summary.add(&key_of(rt, b"a"), weight).err();
+    let fault = summary.merge(other).err();
     (fault, shown(rt, &summary))
 }
 
 #[test]
-fn total_has_a_largest_value(rt: HostRuntime) {
-    let (fault, text) = raised(&rt, MAX_TOTAL - 10);
-    assert_same(&rt, fault, Some(SummaryFault::TotalTooLarge));
-    assert_same(&rt, text.as_str(), "a 4 b 1 of 11, slack 2");
-    let (fault, text) = raised(&rt, MAX_TOTAL - 11);
-    assert_same(&rt, fault, None);
-    let full = "a 9223372036854775800 b 1 of 9223372036854775807, slack 2";
-    assert_same(&rt, text.as_str(), full);
-}
-
-#[test]
-fn summaries_with_different_k_do_not_merge(rt: HostRuntime) {
-    let mut summary = summary_of(&rt, 2, &FOUR_RECORDS);
-    let wider = summary_of(&rt, 3, &[(b'b', 2), (b'c', 3)]);
-    let fault = summary.merge(&wider).err();
-    assert_same(&rt, fault, Some(SummaryFault::DifferentK));
-    assert_shows(&rt, &summary, "a 4 b 1 of 11, slack 2");
-    assert_shows(&rt, &wider, "b 2 c 3 of 5, slack 0");
+fn summaries_merge_or_stay_as_they_were(rt: HostRuntime) {
+    for (k, items, shows, fault, expected) in &OTHERS {
+        let other = summary_of(&rt, *k, items);
+        let (found, text) = merged(&rt, &other);
+        assert_same(&rt, (found, text.as_str()), (*fault, *expected));
+        assert_shows(&rt, &other, shows);
+    }
 }
 
 // Keys with counters, in this order.
