@@ -115,9 +115,11 @@ fn families_are_copied(rt: HostRuntime) {
 }
 
 // Factors and rows of no family, and why.
-const NO_PARTS: [(u64, &[(u64, u64)], TableFault); 7] = [
+const NO_PARTS: [(u64, &[(u64, u64)], TableFault); 9] = [
     (256, &[], TableFault::BadDepth),
     (256, &[(1, 0); 17], TableFault::BadDepth),
+    (0, &[], TableFault::BadDepth),
+    (0, &[(0, 0); 17], TableFault::BadDepth),
     (256, &[(1, MODULUS)], TableFault::BadCoefficient),
     (256, &[(0, 0)], TableFault::BadCoefficient),
     (256, &[(MODULUS, 0)], TableFault::BadCoefficient),
@@ -151,10 +153,10 @@ fn table_of(rt: &(impl Abort + AllocGlobal), items: &[(&[u8], u64)]) -> Table {
 // The cells of a 5, e 2, b 1.
 const CELLS: [u64; 8] = [0, 0, 7, 1, 0, 0, 1, 7];
 
-// Asserts that the table has the cells of a 5, e 2, b 1, and their total.
-fn assert_cells(rt: &impl Abort, table: &Table) {
-    assert!(rt; table.cells() == CELLS.as_slice());
-    assert!(rt; table.total() == 8);
+// Asserts that the table has these cells and this total.
+fn assert_cells(rt: &impl Abort, table: &Table, cells: &[u64], total: u64) {
+    assert_same(rt, table.cells(), cells);
+    assert_same(rt, table.total(), total);
 }
 
 // The estimate of this key.
@@ -165,7 +167,7 @@ fn estimate_of(rt: &(impl Abort + AllocGlobal), table: &Table, key: &[u8]) -> u6
 #[test]
 fn cells_hold_the_weights_that_fall_on_them(rt: HostRuntime) {
     let table = table_of(&rt, &[(b"a", 5), (b"e", 2), (b"b", 1)]);
-    assert_cells(&rt, &table);
+    assert_cells(&rt, &table, &CELLS, 8);
     assert_same(&rt, estimate_of(&rt, &table, b"a"), 7);
     assert_same(&rt, estimate_of(&rt, &table, b"b"), 1);
 }
@@ -194,22 +196,37 @@ fn merged_cells_hold_the_weights_of_all(rt: HostRuntime) {
     let mut table = table_of(&rt, &[(b"a", 5)]);
     merge_item(&rt, &mut table, (b"e", 2));
     merge_item(&rt, &mut table, (b"b", 1));
-    assert_cells(&rt, &table);
+    assert_cells(&rt, &table, &CELLS, 8);
 }
 
-// Asserts why this table isn't merged into that of one item, whose total stays.
-fn assert_unlike(rt: &(impl Abort + AllocGlobal), other: Table, fault: TableFault) {
-    let mut table = table_of(rt, &[(b"a", 5)]);
-    assert_same(rt, table.merge(&other).err(), Some(fault));
-    assert_same(rt, table.total(), 5);
+// What another table has: the addend of its second row, a width, and the weight of one item; and
+// why it isn't merged into the plain table of a 5.
+const UNLIKE: [(u64, u64, u64, TableFault); 7] = [
+    (2, 4, 1, TableFault::DifferentFamily),
+    (1, 5, 1, TableFault::DifferentWidth),
+    (1, 4, MAX_TOTAL, TableFault::TotalTooLarge),
+    (2, 5, 1, TableFault::DifferentFamily),
+    (2, 4, MAX_TOTAL, TableFault::DifferentFamily),
+    (1, 5, MAX_TOTAL, TableFault::DifferentWidth),
+    (2, 5, MAX_TOTAL, TableFault::DifferentFamily),
+];
+
+// The table of the item y.
+fn other_table(rt: &(impl Abort + AllocGlobal), addend: u64, width: u64, weight: u64) -> Table {
+    let mut table = empty_table(rt, family_of(rt, 256, &[(1, 0), (3, addend)]), width);
+    let added = table.add(&key_of(rt, b"y"), weight);
+    added.expect(rt, "an item");
+    table
 }
 
 #[test]
 fn unlike_tables_are_not_merged(rt: HostRuntime) {
-    let other = empty_table(&rt, family_of(&rt, 256, &[(1, 0), (3, 2)]), 4);
-    assert_unlike(&rt, other, TableFault::DifferentFamily);
-    let wider = empty_table(&rt, plain_family(&rt), 5);
-    assert_unlike(&rt, wider, TableFault::DifferentWidth);
+    let mut table = table_of(&rt, &[(b"a", 5)]);
+    for (addend, width, weight, fault) in &UNLIKE {
+        let merged = table.merge(&other_table(&rt, *addend, *width, *weight));
+        assert_same(&rt, merged, Err(*fault));
+        assert_cells(&rt, &table, &[0, 0, 5, 0, 0, 0, 0, 5], 5);
+    }
 }
 
 // The width of a table of this width, or the fault.
@@ -240,31 +257,19 @@ fn item_merged(rt: &(impl Abort + AllocGlobal), table: &mut Table) -> Result<(),
     table.merge(&table_of(rt, &[(b"y", 1)]))
 }
 
-// The table of an item that weighs as much as a table can hold.
-fn full_table(rt: &(impl Abort + AllocGlobal)) -> Table {
-    table_of(rt, &[(b"x", MAX_TOTAL)])
-}
-
-// Its cells: the fingerprint of x is 121, which falls on cell 1, and 3 * 121 + 1 on cell 0.
-const FULL: [u64; 8] = [0, MAX_TOTAL, 0, 0, MAX_TOTAL, 0, 0, 0];
-
-// Asserts that the table is that one.
-fn assert_full(rt: &impl Abort, table: &Table) {
-    assert_same(rt, table.cells(), FULL.as_slice());
-    assert_same(rt, table.total(), MAX_TOTAL);
-}
+// The cells of an item x that weighs as much as a table can hold. The fingerprint is 121, so it
+// falls on cell 1, and by 3 * 121 + 1 on cell 0.
+const FULL_CELLS: [u64; 8] = [0, MAX_TOTAL, 0, 0, MAX_TOTAL, 0, 0, 0];
 
 #[test]
 fn totals_stay_in_range(rt: HostRuntime) {
-    let mut table = full_table(&rt);
-    assert_same(
-        &rt,
-        item_added(&rt, &mut table),
-        Err(TableFault::TotalTooLarge),
-    );
+    let mut table = table_of(&rt, &[(b"x", MAX_TOTAL)]);
+    let added = item_added(&rt, &mut table);
+    assert_same(&rt, added, Err(TableFault::TotalTooLarge));
+    assert_cells(&rt, &table, &FULL_CELLS, MAX_TOTAL);
     let merged = item_merged(&rt, &mut table);
     assert_same(&rt, merged, Err(TableFault::TotalTooLarge));
-    assert_full(&rt, &table);
+    assert_cells(&rt, &table, &FULL_CELLS, MAX_TOTAL);
 }
 
 #[test]
