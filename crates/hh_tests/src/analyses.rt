@@ -1,9 +1,10 @@
 //! The worked rows on analyses.
 
 use crate::fixtures::{
-    analyse_stream, assert_same, counter_of, four_items, is_as_ever, options, stream_of,
+    analyse_stream, assert_same, counter_of, four_items, is_as_ever, options, plain_family,
+    stream_of,
 };
-use hh_pool::{OpenGate, Outcome, Plan, RunError, analyse};
+use hh_pool::{OpenGate, Options, OptionsFault, Outcome, Plan, RunError, analyse};
 use hh_stream::Cutting;
 use std::process::Abort;
 use std::sync::Wait;
@@ -51,6 +52,35 @@ fn numbers_by<R: AllocGlobal + Threads + Wait + Abort + Sync>(
 fn counters_follow_the_plan(rt: HostRuntime) {
     assert_same(&rt, numbers_by(&rt, b"((0 1) 2)"), (0, 0, 4, 2));
     assert_same(&rt, numbers_by(&rt, b"(0 (1 2))"), (0, 2, 4, 1));
+}
+
+// k, p, q, workers and width of no options, and why they are refused.
+const NO_OPTIONS: [(u64, u64, u64, u64, u64, OptionsFault); 10] = [
+    (0, 0, 0, 0, 0, OptionsFault::BadK),
+    (65_536, 1, 3, 1, 4, OptionsFault::BadK),
+    (2, 0, 0, 0, 0, OptionsFault::BadWorkers),
+    (2, 1, 3, 65, 4, OptionsFault::BadWorkers),
+    (2, 0, 0, 1, 0, OptionsFault::BadWidth),
+    (2, 1, 3, 1, 65_537, OptionsFault::BadWidth),
+    (2, 0, 0, 1, 4, OptionsFault::BadThreshold),
+    (2, 1, 4, 1, 4, OptionsFault::BadThreshold),
+    (2, 3, 2, 1, 4, OptionsFault::BadThreshold),
+    (
+        2,
+        4_294_967_297,
+        4_294_967_297,
+        1,
+        4,
+        OptionsFault::BadThreshold,
+    ),
+];
+
+#[test]
+fn options_are_refused_in_their_order(rt: HostRuntime) {
+    for (k, p, q, workers, width, fault) in &NO_OPTIONS {
+        let made = Options::new(*k, *p, *q, *workers, *width, plain_family(&rt));
+        assert_same(&rt, made.err(), Some(*fault));
+    }
 }
 
 #[test]

@@ -153,12 +153,13 @@ fn pieces_by_lengths(rt: HostRuntime) {
 }
 
 // The number of items, lengths, and why these are none of a cutting.
-const OTHER_LENGTHS: [(usize, &[usize], StreamFault); 5] = [
+const OTHER_LENGTHS: [(usize, &[usize], StreamFault); 6] = [
     (4, &[], StreamFault::NoPieces),
     (4, &[3, 2], StreamFault::WrongSum),
     (4, &[3], StreamFault::WrongSum),
     (4, &[usize::MAX, 5], StreamFault::WrongSum),
     (0, &[0; 1025], StreamFault::TooManyPieces),
+    (1, &[0; 1025], StreamFault::TooManyPieces),
 ];
 
 #[test]
