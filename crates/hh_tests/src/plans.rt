@@ -2,9 +2,11 @@
 
 ghost use Rattle.std.specs.Prelude.{◌<◌};
 
-use crate::fixtures::{assert_same, counter_of, key_of};
+use crate::fixtures::{assert_same, counter_of, key_of, summary_of};
 use hh_counters::{Summary, SummaryFault};
+use hh_faults::{ToolError, TreeFault};
 use hh_pool::{Plan, merge_by};
+use hh_stream::MAX_TOTAL;
 use std::process::Abort;
 
 // The summary of one item.
@@ -66,10 +68,79 @@ fn merges_follow_the_plan(rt: HostRuntime) {
     assert_same(&rt, merge_of(&rt, &right), (1, 2, 0, 4, 1));
 }
 
+// The k and the weight of the summaries of a piece each, which `((0 1) (2 3))` merges, and the
+// fault: that of the left tree comes before that of the right tree, and this before the node's.
+const REFUSED: [([(u64, u64); 4], SummaryFault); 7] = [
+    (
+        [(1, 1), (2, 1), (1, MAX_TOTAL), (1, 1)],
+        SummaryFault::DifferentK,
+    ),
+    (
+        [(1, MAX_TOTAL), (1, 1), (1, 1), (2, 1)],
+        SummaryFault::TotalTooLarge,
+    ),
+    (
+        [(1, MAX_TOTAL), (1, 1), (2, 1), (2, 1)],
+        SummaryFault::TotalTooLarge,
+    ),
+    (
+        [(1, 1), (1, 1), (2, MAX_TOTAL), (2, 1)],
+        SummaryFault::TotalTooLarge,
+    ),
+    (
+        [(1, MAX_TOTAL - 1), (1, 1), (1, 1), (2, 1)],
+        SummaryFault::DifferentK,
+    ),
+    (
+        [(1, MAX_TOTAL - 1), (1, 1), (1, 1), (1, 1)],
+        SummaryFault::TotalTooLarge,
+    ),
+    (
+        [(1, MAX_TOTAL - 1), (1, 1), (2, 1), (2, 1)],
+        SummaryFault::DifferentK,
+    ),
+];
+
+// The fault of merging these summaries of the item a.
+fn refusal_of(rt: &(impl Abort + AllocGlobal), pieces: &[(u64, u64)]) -> Option<SummaryFault> {
+    let mut summaries = Vec::new(rt.alloc());
+    for (k, weight) in pieces {
+        let summary = summary_of(rt, *k, &[(b'a', *weight)]);
+        summaries.push(summary).expect(rt, "room");
+    }
+    let plan = plan_of(rt, b"((0 1) (2 3))", 4);
+    merge_all(rt, &plan, summaries).err()
+}
+
 #[test]
-fn different_k_is_not_merged(rt: HostRuntime) {
-    let summaries = vec![in rt.alloc(); one(&rt, 2, b"a", 1), one(&rt, 3, b"a", 1)];
-    let plan = plan_of(&rt, b"(0 1)", 2);
-    let refused = merge_all(&rt, &plan, summaries.expect(&rt, "room")).err();
-    assert_same(&rt, refused, Some(SummaryFault::DifferentK));
+fn merges_are_refused_from_left_to_right_and_then_at_the_node(rt: HostRuntime) {
+    for (pieces, fault) in &REFUSED {
+        assert_same(&rt, refusal_of(&rt, pieces), Some(*fault));
+    }
+}
+
+// Texts, numbers of pieces, and why the text is no plan of so many.
+const NO_PLANS: [(&[u8], usize, TreeFault); 13] = [
+    (b"(0 (1 1))", 3, TreeFault::RepeatedPiece(1)),
+    (b"(0 1)", 3, TreeFault::MissingPiece(2)),
+    (b"(0 3)", 3, TreeFault::UnknownPiece(3)),
+    (b"(0", 3, TreeFault::Syntax(2)),
+    (b"(0 1))", 3, TreeFault::Syntax(5)),
+    (b"(0  1)", 3, TreeFault::Syntax(3)),
+    (b"", 3, TreeFault::Syntax(0)),
+    (b"01", 3, TreeFault::Syntax(1)),
+    (b"12345", 3, TreeFault::Syntax(4)),
+    (b"(2 (3 2))", 3, TreeFault::UnknownPiece(3)),
+    (b"(2 (2 3))", 3, TreeFault::RepeatedPiece(2)),
+    (b"(0 0)", 3, TreeFault::RepeatedPiece(0)),
+    (&[b'('; 1024], 1024, TreeFault::Syntax(1023)),
+];
+
+#[test]
+fn texts_of_no_plan_are_refused(rt: HostRuntime) {
+    for (text, pieces, fault) in &NO_PLANS {
+        assert!(rt; 1 <= *pieces && *pieces <= 1024);
+        let refused = Plan::parse(rt.alloc(), text, *pieces).err();
+        assert_same(&rt, refused, Some(ToolError::BadTree(*fault)));
+    }
 }
