@@ -20,4 +20,6 @@ mod fixtures;
 #[cfg(test)]
 mod reports;
 #[cfg(test)]
+mod saved;
+#[cfg(test)]
 mod sinks;
