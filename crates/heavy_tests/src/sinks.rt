@@ -70,18 +70,28 @@ fn row(rt: &(impl Abort + AllocGlobal), letter: u8, weight: u64) -> Heavy {
     Heavy { key, weight }
 }
 
-/// What a writer takes of the rows of `a` and `b`, and the fault.
-fn report_to(rt: &(impl Abort + AllocGlobal), manner: Manner) -> (Vec<u8>, Option<ToolError>) {
-    let rows = [row(rt, b'a', 6), row(rt, b'b', 3)];
+/// What a writer takes of these rows, and the fault.
+fn report_to(
+    rt: &(impl Abort + AllocGlobal),
+    rows: &[Heavy],
+    manner: Manner,
+) -> (Vec<u8>, Option<ToolError>) {
     let mut taken = Vec::new(rt.alloc());
     let mut out = Out::new(FaultyWriter::new(manner, &mut taken));
-    let fault = write_report(rt.alloc(), &mut out, &rows).err();
+    let fault = write_report(rt.alloc(), &mut out, rows).err();
     drop(out);
     (taken, fault)
 }
 
 #[test]
+fn row_of_one_key_is_written(rt: HostRuntime) {
+    let (taken, fault) = report_to(&rt, &[row(&rt, b'a', 6)], Manner::taking(99));
+    assert_same(&rt, (taken.as_slice(), fault), (b"a,6\n".as_slice(), None));
+}
+
+#[test]
 fn rows_of_a_report_are_written(rt: HostRuntime) {
+    let rows = [row(&rt, b'a', 6), row(&rt, b'b', 3)];
     for (manner, written) in &[
         (Manner::taking(99), None),
         (Manner::slow(), None),
@@ -89,7 +99,7 @@ fn rows_of_a_report_are_written(rt: HostRuntime) {
         (Manner::taking(0), Some(0)),
         (Manner::without_flush(), Some(8)),
     ] {
-        let (taken, fault) = report_to(&rt, *manner);
+        let (taken, fault) = report_to(&rt, &rows, *manner);
         let expected = written.map(|written| ToolError::WriteFault { written });
         assert_same(&rt, fault, expected);
         let len = written.unwrap_or(8) as usize;
