@@ -221,12 +221,11 @@ class Devices(programs.Checks):
     def test_threads(self) -> None:
         """Threads and address space that the system refuses: the report, or out of memory."""
         words = [self.program, *REPORT, "--workers", "64", "--pieces", "64"]
-        refused = 0
-        for kilobytes in range(4_000, 600_000, 12_000):
+        report, least, most = (0, b"a,6\n", b""), 4_000, 8_000_000
+        for kilobytes in (*range(least, 600_000, 12_000), most):
             found = shell(f'ulimit -v {kilobytes}; exec "$@"', words)
-            refused += found == NO_MEMORY
-            self.check(f"64 workers in {kilobytes} kB", found in ((0, b"a,6\n", b""), NO_MEMORY), found)
-        self.check("some limit refuses 64 workers", refused > 0)
+            allowed = {least: [NO_MEMORY], most: [report]}.get(kilobytes, [NO_MEMORY, report])
+            self.check(f"64 workers in {kilobytes} kB", found in allowed, found)
         # no limit on threads holds for root
         nobody = {"user": 65534, "group": 65534, "extra_groups": []} if os.geteuid() == 0 else {}
         alone = {"preexec_fn": lambda: resource.setrlimit(resource.RLIMIT_NPROC, (1, 1)), **nobody}
