@@ -8,12 +8,15 @@ Each run has to answer as with ample memory, or to answer Memory and leave every
 same call answers as ever. The calls that take no memory have to meet no refusal at all.
 """
 import os
+import re
 from collections.abc import Iterable
 from concurrent.futures import ThreadPoolExecutor
 from functools import partial
 from pathlib import Path
 
+import hostile_records
 import programs
+import reference
 
 # The program heavy_oom marks a call by requests of these sizes.
 MARKS = {"REFUSE_FROM": "100003", "REFUSE_TO": "100019"}
@@ -61,8 +64,13 @@ LENT = {
 RECORDS = b"a,5\nb,3\nc,2\na,1\n"
 LONG_RECORDS = RECORDS.replace(b"a", b"a" * 40).replace(b"b", b"b" * 40).replace(b"c", b"c" * 40)
 OUT_OF_MEMORY = b"heavy: out of memory\n"
+# the file that has the version of the program
+VERSION = programs.TOP / "crates" / "heavy_arguments" / "src" / "arguments.rt"
 # what --progress tells of few records, where their end was read
 PROGRESS = b"heavy: 0.0 MB and 4 records read, 0.0 MB/s\n"
+A, B = b"a" * 40, b"b" * 40
+# what stands in each help
+USAGE = b"Usage: heavy"
 
 
 class Refusing:
@@ -129,68 +137,120 @@ def is_lawful_run(ample: programs.Ended, ended: programs.Ended) -> bool:
     return same_fault(ample, ended) or (ended.status, ended.out) == (4, b"") and ended.err in memory
 
 
-def refuse_commands(refusing: Refusing, program: str, room: str) -> list[list[str]]:
-    """Runs all commands of a program with each request for memory refused in turn, from the first one of the process on,
-    and gives their words."""
-    saved, long, twice, table = f"{room}/summary", f"{room}/long", f"{room}/twice", f"{room}/table"
+# A command with what it reads, and what it has to answer with ample memory: its status, standard output, and how standard error
+# begins.
+Row = tuple[list[str], bytes, tuple[int, bytes, bytes]]
+
+
+def is_known(ended: programs.Ended, known: tuple[int, bytes, bytes]) -> bool:
+    """Whether a run answers what is known of it: of help that it is one, and of standard error how it begins."""
+    status, out, err = known
+    answers = USAGE in ended.out if out == USAGE else ended.out == out
+    told = USAGE in ended.err if err == USAGE else ended.err.startswith(err)
+    return ended.status == status and answers and told and (err != b"" or ended.err == b"")
+
+
+def of_records(records: str, bad: str) -> list[Row]:
+    """The commands that read records."""
+    long, both = reference.summarise(LONG_RECORDS, 2), (3, b"", b"heavy: record 6: zero weight\n")
+    return [
+        (["report", "--k", "2"], RECORDS, (0, b"a,6\n", b"")),
+        (["report", "--k", "2", "--workers", "2", "--tree", "((0 1) (2 3))"], LONG_RECORDS, (0, A + b",6\n", b"")),
+        (["report", "--k", "2", "--tree", "chain"], LONG_RECORDS, (0, A + b",6\n", b"")),
+        (["report", "--k", "0"], RECORDS, (2, b"", b"heavy: k must be 1 to 65535\n")),
+        (["report", "--k", "2"], b"a,0\n", (3, b"", b"heavy: record 1: zero weight\n")),
+        (["report", "--k", "2", "--workers", "2", records, records], b"", (0, A + b",12\n", b"")),
+        (["report", "--k", "2", records, "-"], RECORDS, (0, b"", b"")),
+        (["report", "--k", "2", records, bad], b"", both),
+        (["report", "--k", "2", "--output", "json", "--names"], LONG_RECORDS, (0, b'{"key":"%b","weight":6}\n' % A, b"")),
+        (["report", "--k", "2", "--output", "tsv", "--names"], RECORDS, (0, b"key\tweight\na\t6\n", b"")),
+        (["summarise", "--k", "2"], LONG_RECORDS, (0, long, b"")),
+        (["summarise", "--k", "2", "--method", "ss"], LONG_RECORDS, (0, long, b"")),
+        (["summarise", "--method", "no"], RECORDS, (2, b"", b"heavy: method must be mg or ss\n")),
+        (["report", "--k", "2", "--progress"], RECORDS, (0, b"a,6\n", PROGRESS)),
+        (["summarise", "--k", "2", "--progress"], RECORDS, (0, reference.summarise(RECORDS, 2), PROGRESS)),
+    ]
+
+
+def of_tables(room: str, records: str, empty: bytes) -> list[Row]:
+    """The commands that make tables or read them, by the family of an empty one."""
+    words, path = ["table", "--depth", "2", "--width", "4"], f"{room}/table"
+    table = hostile_records.table(RECORDS, empty)
+    Path(path).write_bytes(table)
+    return [
+        (words, LONG_RECORDS, (0, hostile_records.table(LONG_RECORDS, empty), b"")),
+        ([*words, "--workers", "2", records, records], b"", (0, hostile_records.table(LONG_RECORDS * 2, empty), b"")),
+        (["merge", path, path], b"", (0, reference.merge([table, table]), b"")),
+        (["ask", path, "a"], b"", (0, reference.ask(table, [b"a"]), b"")),
+        (["describe", path], b"", (0, reference.describe(table), b"")),
+    ]
+
+
+def of_summaries(room: str, records: str, bad: str) -> list[Row]:
+    """The commands that read summaries. Beside them stands the table of the others."""
+    saved, long, twice, table = (f"{room}/{name}" for name in ("summary", "long", "twice", "table"))
+    short, whole = reference.summarise(RECORDS, 2), reference.summarise(LONG_RECORDS, 2)
+    for path, data in ((saved, short), (long, whole), (twice, reference.summarise(LONG_RECORDS * 2, 2))):
+        Path(path).write_bytes(data)
+    outside = reference.compared(reference.condense, whole, LONG_RECORDS * 2, False)
+    return [
+        (["merge", saved, saved], b"", (0, reference.merge([short, short]), b"")),
+        (["merge", long, long], b"", (0, reference.merge([whole, whole]), b"")),
+        (["merge", saved, table], b"", (3, b"", b"heavy: file 2: another kind\n")),
+        (["merge", f"{room}/none"], b"", (1, b"", b"heavy: file 1: could not be read\n")),
+        (["ask", saved, "a", "z" * 40], b"", (0, b"a,4,6\n" + b"z" * 40 + b",0,2\n", b"")),
+        (["ask", long, "a" * 40], b"", (0, A + b",4,6\n", b"")),
+        (["list", saved], b"", (0, b"a,4,6\nb,1,3\n", b"")),
+        (["list", long], b"", (0, A + b",4,6\n" + B + b",1,3\n", b"")),
+        (["list", "--output", "json", long], b"",
+         (0, b'{"key":"%b","low":4,"high":6}\n{"key":"%b","low":1,"high":3}\n' % (A, B), b"")),
+        (["list", "--names", long], b"", (0, b"key,low,high\n" + A + b",4,6\n" + B + b",1,3\n", b"")),
+        (["describe", saved], b"", (0, reference.describe(short), b"")),
+        (["condense", saved], RECORDS, (0, reference.condense(short, RECORDS), b"")),
+        (["condense", long], LONG_RECORDS, (0, reference.condense(whole, LONG_RECORDS), b"")),
+        (["condense", "--workers", "2", long, records, records], b"", outside),
+        (["confirm", saved], RECORDS, (0, b"a,6\n", b"")),
+        (["confirm", long], LONG_RECORDS, (0, A + b",6\n", b"")),
+        (["confirm", "--workers", "2", twice, records, records], b"", (0, A + b",12\n", b"")),
+        (["confirm", "--workers", "2", twice, records, bad], b"", (3, b"", b"heavy: record 6: zero weight\n")),
+        (["confirm", "--threshold", "1/2", saved], RECORDS, (0, b"a,6\n", b"")),
+        (["ask", saved], b"", (2, b"", b"error: the following required arguments were not provided:")),
+    ]
+
+
+def of_words() -> list[Row]:
+    """The command lines that are read, and nothing else."""
+    version = re.search(r'^const VERSION: &str = "(.*)";$', VERSION.read_text(), re.M)[1]
+    return [
+        (["--help"], b"", (0, USAGE, b"")),
+        (["--version"], b"", (0, f"heavy {version}\n".encode(), b"")),
+        (["report", "--help"], b"", (0, USAGE, b"")),
+        (["help", "report", "--help"], b"", (0, USAGE, b"")),
+        (["report", "--nothing"], b"", (2, b"", b"error: unexpected argument '--nothing' found")),
+        ([], b"", (2, b"", USAGE)),
+    ]
+
+
+def command_rows(program: str, room: str) -> list[Row]:
+    """Command lines, each with its input and what is known of its answer; their files are written."""
     records, bad = f"{room}/records.csv", f"{room}/bad.csv"
     Path(records).write_bytes(LONG_RECORDS)
     Path(bad).write_bytes(b"a,5\nb,0\n")
-    Path(saved).write_bytes(programs.run([program, "summarise", "--k", "2"], RECORDS).out)
-    Path(long).write_bytes(programs.run([program, "summarise", "--k", "2"], LONG_RECORDS).out)
-    Path(twice).write_bytes(programs.run([program, "summarise", "--k", "2"], LONG_RECORDS * 2).out)
-    Path(table).write_bytes(programs.run([program, "table", "--depth", "2", "--width", "4"], RECORDS).out)
-    rows = [
-        (["report", "--k", "2"], RECORDS),
-        (["report", "--k", "2", "--workers", "2", "--tree", "((0 1) (2 3))"], LONG_RECORDS),
-        (["report", "--k", "2", "--tree", "chain"], LONG_RECORDS),
-        (["report", "--k", "0"], RECORDS),
-        (["report", "--k", "2"], b"a,0\n"),
-        (["report", "--k", "2", "--workers", "2", records, records], b""),
-        (["report", "--k", "2", records, "-"], RECORDS),
-        (["report", "--k", "2", records, bad], b""),
-        (["report", "--k", "2", "--output", "json", "--names"], LONG_RECORDS),
-        (["report", "--k", "2", "--output", "tsv", "--names"], RECORDS),
-        (["summarise", "--k", "2"], LONG_RECORDS),
-        (["summarise", "--k", "2", "--method", "ss"], LONG_RECORDS),
-        (["summarise", "--method", "no"], RECORDS),
-        (["table", "--depth", "2", "--width", "4"], LONG_RECORDS),
-        (["table", "--depth", "2", "--width", "4", "--workers", "2", records, records], b""),
-        (["report", "--k", "2", "--progress"], RECORDS),
-        (["summarise", "--k", "2", "--progress"], RECORDS),
-        (["merge", saved, saved], b""),
-        (["merge", long, long], b""),
-        (["merge", table, table], b""),
-        (["merge", saved, table], b""),
-        (["merge", f"{room}/none"], b""),
-        (["ask", saved, "a", "z" * 40], b""),
-        (["ask", long, "a" * 40], b""),
-        (["ask", table, "a"], b""),
-        (["list", saved], b""),
-        (["list", long], b""),
-        (["list", "--output", "json", long], b""),
-        (["list", "--names", long], b""),
-        (["describe", saved], b""),
-        (["describe", table], b""),
-        (["condense", saved], RECORDS),
-        (["condense", long], LONG_RECORDS),
-        (["condense", "--workers", "2", long, records, records], b""),
-        (["confirm", saved], RECORDS),
-        (["confirm", long], LONG_RECORDS),
-        (["confirm", "--workers", "2", twice, records, records], b""),
-        (["confirm", "--workers", "2", twice, records, bad], b""),
-        (["confirm", "--threshold", "1/2", saved], RECORDS),
-        (["--help"], b""),
-        (["--version"], b""),
-        (["report", "--help"], b""),
-        (["help", "report", "--help"], b""),
-        (["report", "--nothing"], b""),
-        (["ask", saved], b""),
-        ([], b""),
+    empty = programs.run([program, "table", "--depth", "2", "--width", "4"]).out
+    return [
+        *of_records(records, bad), *of_tables(room, records, empty), *of_summaries(room, records, bad), *of_words(),
     ]
-    with ThreadPoolExecutor() as pool:
-        list(pool.map(lambda row: refusing.in_turn([program, *row[0]], row[1], {}, is_lawful_run), rows))
-    return [words for words, _ in rows]
+
+
+def refuse_command(refusing: Refusing, program: str, row: Row) -> None:
+    """Runs a command of a program with each request for memory refused in turn, from the first one of the process on. With
+    ample memory it makes some, and answers what is known."""
+    (words, given, known), whole = row, [program, *row[0]]
+    ample, _ = refusing.run(whole, 0, given, {})
+    if not is_known(ample, known):
+        refusing.tell(whole, 0, f"{ample} in place of {known}")
+    if refusing.in_turn(whole, given, {}, is_lawful_run) == 0:
+        refusing.tell(whole, 0, "it took no memory, so nothing was tried")
 
 
 class RefusedMemory(programs.Checks):
@@ -257,7 +317,10 @@ class RefusedMemory(programs.Checks):
 
     def test_commands(self) -> None:
         """All commands, from the first request of the process on."""
-        self.check_all(refuse_commands(self.refusing, self.program, self.room))
+        rows = command_rows(self.program, self.room)
+        with ThreadPoolExecutor() as pool:
+            list(pool.map(partial(refuse_command, self.refusing, self.program), rows))
+        self.check_all(words for words, _, _ in rows)
 
 
 if __name__ == "__main__":
