@@ -601,6 +601,18 @@ class CommandLine(programs.Checks):
                     Path(self.room, "key").write_bytes(reference.written(summary, magic))
                     self.expect(["ask", "key", key], (0, key + b",9,9\n", b""))
 
+    def test_longest_key_alone(self) -> None:
+        """The longest key with weight 1: the summary that is saved of it, byte by byte, and what is read of that."""
+        key = b"x" * 4096
+        saved = saved_bytes("48485332 01 0001 0000000000000001 0001 1000") + key + saved_bytes("0000000000000001")
+        self.check("its summary has 4123 bytes", len(saved) == 4123, len(saved))
+        self.expect(["summarise", "--k", "1"], (0, saved, b""), key + b"\n")
+        Path(self.room, "longest").write_bytes(saved)
+        self.expect(["merge", "longest"], (0, saved, b""))
+        self.expect(["ask", "longest", key], (0, key + b",1,1\n", b""))
+        self.expect(["list", "longest"], (0, key + b",1,1\n", b""))
+        self.expect(["confirm", "longest"], (0, key + b",1\n", b""), key + b"\n")
+
     def test_digits_and_bytes(self) -> None:
         """A weight of 20 digits, and keys of bytes that are no text, up to the longest."""
         self.expect(["report"], (0, b"a,1\n", b""), b"a,00000000000000000001\n")
