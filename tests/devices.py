@@ -156,8 +156,9 @@ class Devices(programs.Checks):
 
     def test_unread_inputs(self) -> None:
         """What is tested before the records are read, where they can't be."""
-        wrong = f"{self.room}/wrong"
+        wrong, table = f"{self.room}/wrong", f"{self.room}/table"
         Path(wrong).write_bytes(b"HHS1\x03")
+        Path(table).write_bytes(programs.run([self.program, "table", "--width", "4"], RECORDS).out)
         for words, status, text in [
             (["report", "--depth", "17"], 2, "depth must be 1 to 16"), (["report", "--k", "0"], 2, "k must be 1 to 65535"),
             (["report", "--workers", "65"], 2, "workers must be 1 to 64"),
@@ -168,6 +169,7 @@ class Devices(programs.Checks):
             (["table", "--depth", "0", "--width", "0"], 2, "depth must be 1 to 16"),
             (["table", "--depth", "16", "--width", "65537"], 2, "width must be 1 to 65536"),
             (["condense", wrong], 3, "file 1: bad kind"), (["confirm", wrong], 3, "file 1: bad kind"),
+            (["condense", table], 3, "file 1: not a counter summary"), (["confirm", table], 3, "file 1: not a counter summary"),
         ]:
             found = shell('"$@" < /', [self.program, *words])
             self.check(" ".join(words), found == (status, b"", f"heavy: {text}\n".encode()), found)
@@ -185,6 +187,26 @@ class Devices(programs.Checks):
             found = said(programs.run([self.program, *command], RECORDS, stdout=mouth, restore_signals=False))
             os.close(mouth)
             self.check(f"{command[0]} into a closed pipe", found == NOT_WRITTEN, found)
+
+    def test_refused_before_written(self) -> None:
+        """Every command that reads records, where one is bad and the answer couldn't be written either."""
+        by_file = [["condense", self.summary], ["confirm", self.summary]]
+        for command in [REPORT, ["summarise"], ["summarise", "--method", "ss"], ["table"], ["top", "1"], *by_file]:
+            found = shell('"$@" > /dev/full', [self.program, *command], b"a,5\nb,0\n")
+            wanted = (3, b"", b"heavy: record 2: zero weight\n")
+            self.check(f"{command[0]} of a bad record into a full device", found == wanted, found)
+
+    def test_unread_files(self) -> None:
+        """A damaged saved file and one that can't be read: the latter is told, since all are read before the first is judged."""
+        wrong, none = f"{self.room}/wrong", f"{self.room}/none"
+        Path(wrong).write_bytes(b"HHS1\x03")
+        for files, wanted in [
+            ([wrong, none], (1, b"", b"heavy: file 2: could not be read\n")),
+            ([self.summary, wrong, none], (1, b"", b"heavy: file 3: could not be read\n")),
+            ([wrong, self.summary], (3, b"", b"heavy: file 1: bad kind\n")),
+        ]:
+            found = said(programs.run([self.program, "merge", *files]))
+            self.check(f"merge of {len(files)} files, {wanted[2]!r}", found == wanted, found)
 
     def test_files(self) -> None:
         """Saved files that can't be read, and one that comes through a pipe."""
