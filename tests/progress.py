@@ -19,6 +19,7 @@ import programs
 
 READ = rb"heavy: (\d+\.\d) MB and (\d+) records read, \d+\.\d MB/s"
 PIPE = re.compile(READ + rb"\n")
+FILE = re.compile(READ + rb", (\d+) % of (\d+\.\d) MB, \d+ s left\n")
 # of files that are named, which workers read
 NAMED = re.compile(rb"heavy: \d+\.\d MB read( in two passes)?, \d+\.\d MB/s(?:, (\d+) % of (\d+\.\d) MB, \d+ s left)?\n")
 PART = b"".join(b"key%d,%d\n" % (number % 977, number) for number in range(1, 20_000))
@@ -42,6 +43,12 @@ def line(text: bytes, read: int, millis: int, size: int | None = None) -> bytes:
         left = (size - read) * millis // read // 1000
         told += b", %d %% of %b, %d s left" % (read * 100 // size, megabytes(size), left)
     return told + b"\n"
+
+
+def are_told(told: list[bytes], wanted: list[bytes]) -> bool:
+    """Whether these lines are told. The last one comes at each read that finds the end, of which some readers make two."""
+    count, whole = len(wanted), wanted[-1].partition(b", ")[0]
+    return told[:count] == wanted and all(line.partition(b", ")[0] == whole for line in told[count:]) and len(told) <= count + 1
 
 
 def waited(what: str, holds) -> None:
@@ -127,8 +134,8 @@ class Progress(programs.Checks):
             (b'a"b\nc"d\n', b"2"), (b'"a"b\nc\n', b"2"),
         ]:
             ended = programs.run([self.program, "table", "--progress"], text, self.at(0))
-            told = [found for _, found in PIPE.findall(ended.err)]
-            self.check(f"records counted in {text}", (ended.status, told) == (0, [count]), ended.err)
+            told = {found for _, found in PIPE.findall(ended.err)}
+            self.check(f"records counted in {text}", (ended.status, told) == (0, {count}), ended.err)
         for first, second in [(b'a,"1\n', b'"\nb,2\n'), (b",", b"\n,\n")]:
             told = self.fed(["table"], [first, second], 1000)
             found = [read[2] for read in map(PIPE.fullmatch, told) if read]
@@ -144,7 +151,7 @@ class Progress(programs.Checks):
         self.check("what is wanted of a pipe", [wanted[0], wanted[-1]] == by_hand and len(wanted) == 5, wanted)
         for name, words in {"summarise": ["summarise"], **self.by_summary(whole)}.items():
             told = self.fed(words, [SMALL] * STEPS, STEP)
-            self.check(f"{name} tells of a pipe", told == wanted, told)
+            self.check(f"{name} tells of a pipe", are_told(told, wanted), told)
 
     def test_file(self) -> None:
         """A file, as the standard input of each command: the share that is read, and the time left, once a second, and the whole
@@ -158,11 +165,23 @@ class Progress(programs.Checks):
         self.check("what is wanted of a file", wanted[0].startswith(b"heavy: 0.1 MB and ") and wanted[0].endswith(by_hand), wanted[0])
         path = Path(self.room, "many.csv")
         path.write_bytes(text)
-        for name, words in {**COMMANDS, **self.by_summary(text)}.items():
-            with open(path, "rb") as records:
-                ended = programs.run([self.program, *words, "--progress"], env=self.at(STEP), stdin=records)
-            told = ended.err.splitlines(keepends=True)
-            self.check(f"{name} tells of a file", (ended.status, told) == (0, wanted), told)
+        for name, words in {"summarise": ["summarise"], "table": ["table"], **self.by_summary(text)}.items():
+            told = self.told_of(words, path)
+            self.check(f"{name} tells of a file", are_told(told, wanted), told)
+        # a report reads less at once in the beginning
+        for words in (["report"], ["report", "--memory", "0"]):
+            told = self.told_of(words, path)
+            shares = [found for found in map(FILE.fullmatch, told) if found]
+            ends = [one.startswith(b"heavy: 4.9 MB and 399980 records read, ") for one in told[len(shares) :]]
+            right = len(shares) > 1 and {found[4] for found in shares} == {b"4.9"} and ends and all(ends)
+            self.check(f"{words} tells of a file", right, told)
+
+    def told_of(self, words: list[str], path: Path) -> list[bytes]:
+        """What a run tells whose standard input is this file."""
+        with open(path, "rb") as records:
+            ended = programs.run([self.program, *words, "--progress"], env=self.at(STEP), stdin=records)
+        self.check(f"{words} ends well", ended.status == 0, ended.err)
+        return ended.err.splitlines(keepends=True)
 
     def test_named_file(self) -> None:
         """A file that is named, which workers read: the share of one pass, or of the two of a report, and the same answer."""
