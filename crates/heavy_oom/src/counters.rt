@@ -2,32 +2,55 @@
 
 ghost use Rattle.std.specs.Prelude.{◌≡◌, length};
 
-use crate::lab::{Lab, Said, marked};
+use crate::lab::{Lab, Said, marked, told};
 use crate::monitors;
 use crate::show::{Counters, Numbers};
 use hh_counters::{Candidates, Summary, SummaryFault};
 use hh_stream::{Key, Stream};
+use std::alloc::AllocError;
 use std::test::Fail;
 
 const ENTRIES: [(u8, u64); 2] = [(b'a', 4), (b'b', 1)];
 
 pub fn call(lab: &Lab, name: &str) -> Result<Said, Fail> {
     match name {
-        "Summary::add" => summary_add(lab),
+        "Summary::add" => summary_add(lab, 2),
+        "Summary::add with room left" => summary_add(lab, 4),
         "Summary::of_items" => summary_of_items(lab),
         "Summary::merge" => summary_merge(lab),
         "Summary::new" => summary_new(lab),
         "Summary readers" => summary_readers(lab),
         "Summary::from_entries" => from_entries(lab, entries(lab)?),
+        _ => candidates_call(lab, name),
+    }
+}
+
+// The calls on candidates.
+fn candidates_call(lab: &Lab, name: &str) -> Result<Said, Fail> {
+    match name {
+        "Candidates::of" => candidates_of(lab, &lab.summary()?),
+        "Candidates::select" => selected(lab),
         "Candidates readers" => candidates_readers(lab),
         _ => monitors::call(lab, name),
     }
 }
 
-// A newcomer, by which all counters fall, and again where memory was refused.
-fn summary_add(lab: &Lab) -> Result<Said, Fail> {
+fn candidates_of(lab: &Lab, summary: &Summary) -> Result<Said, Fail> {
+    told!(lab, Candidates::of(lab.alloc, summary), AllocError)
+}
+
+// The rows of the keys above a third of the total.
+fn selected(lab: &Lab) -> Result<Said, Fail> {
+    let candidates = lab.candidates()?;
+    told!(lab, candidates.select(&[6, 3], 11, 1, 3), AllocError)
+}
+
+// The items for this k and then a newcomer, by which the counters fall where k have one, and again
+// where memory was refused.
+fn summary_add(lab: &Lab, k: u64) -> Result<Said, Fail> {
     let key = lab.key(b'd')?;
-    add_twice(lab, &mut lab.summary()?, &key)
+    let mut summary = Summary::of_items(lab.alloc, k, lab.stream()?.items())?;
+    add_twice(lab, &mut summary, &key)
 }
 
 fn add_twice(lab: &Lab, summary: &mut Summary, key: &Key) -> Result<Said, Fail> {

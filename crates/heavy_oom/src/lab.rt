@@ -22,6 +22,14 @@ const LONG: usize = 40;
 /// The letters and weights of the four items.
 const ITEMS: [(u8, u64); 4] = [(b'a', 5), (b'b', 3), (b'c', 2), (b'a', 1)];
 
+/// The same, as records after their keys.
+const RECORDS: [(u8, &[u8]); 4] = [
+    (b'a', b",5\n"),
+    (b'b', b",3\n"),
+    (b'c', b",2\n"),
+    (b'a', b",1\n"),
+];
+
 /// What a call answers, which is made between its marks.
 macro_rules! marked {
     ($lab:expr, $call:expr) => {{
@@ -173,6 +181,16 @@ impl<'a> Lab<'a> {
             self.push(&mut stream, *letter, *weight)?;
         }
         Ok(stream)
+    }
+
+    /// The records of the items.
+    pub fn records(&self) -> Result<Vec<u8>, Fail> {
+        let mut text = Vec::new(self.alloc);
+        for (letter, rest) in &RECORDS {
+            text.extend_from_slice(self.bytes(*letter)?.as_slice())?;
+            text.extend_from_slice(rest)?;
+        }
+        Ok(text)
     }
 
     /// The summary of the items for k = 2: a 4, b 1.

@@ -11,6 +11,7 @@ mod countmin;
 mod lab;
 mod monitors;
 mod pool;
+mod records;
 mod saved;
 mod show;
 mod stream;
@@ -31,7 +32,7 @@ fn call<R: Threads + Wait + Sync>(rt: &R, lab: &Lab, of: &str, name: &str) -> Re
         "hh_shared" => sums::call(lab, name),
         "hh_saved" => saved::call(lab, name),
         "hh_pool" => pool::call(rt, lab, name),
-        "heavy" => commands::call(lab, name),
+        "heavy" => commands::call(rt, lab, name),
         _ => Err(lab::no_such_call(name)),
     }
 }

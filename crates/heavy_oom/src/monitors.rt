@@ -11,44 +11,46 @@ use std::test::Fail;
 
 pub fn call(lab: &Lab, name: &str) -> Result<Said, Fail> {
     match name {
-        "SpaceSaving::add" => added(lab, plain(lab), b'd', 4),
-        "SpaceSaving::add monitored" => added(lab, plain(lab), b'b', 4),
-        "SpaceSaving::into_summary" => translated(lab, plain(lab)),
-        "SpaceSaving readers" => readers(lab, plain(lab)),
+        "SpaceSaving::add" => added(lab, plain(lab, 2), b'd', 4),
+        "SpaceSaving::add with room left" => added(lab, plain(lab, 3), b'd', 4),
+        "SpaceSaving::add monitored" => added(lab, plain(lab, 2), b'b', 4),
+        "SpaceSaving::into_summary" => translated(lab, plain(lab, 2)),
+        "SpaceSaving readers" => readers(lab, plain(lab, 2)),
         "SpaceSaving::new" => space_saving_new(lab),
         _ => bucketed(lab, name),
     }
 }
 
-// A monitor of two counters.
-fn plain(lab: &Lab) -> Result<SpaceSaving, Fail> {
-    Ok(SpaceSaving::new(lab.alloc, 2)?)
+// A monitor of k + 1 counters.
+fn plain(lab: &Lab, k: u64) -> Result<SpaceSaving, Fail> {
+    Ok(SpaceSaving::new(lab.alloc, k)?)
 }
 
 // The calls on Space-Saving in buckets. The four items give a 6, b 3 and c 2, where a stands in the
 // bucket of 5: with 3 more than c a newcomer goes into that bucket, and with 4 more into a new one.
 fn bucketed(lab: &Lab, name: &str) -> Result<Said, Fail> {
     match name {
-        "BucketSaving::add" => added(lab, buckets(lab), b'd', 3),
-        "BucketSaving::add new bucket" => added(lab, buckets(lab), b'd', 4),
+        "BucketSaving::add" => added(lab, buckets(lab, 2), b'd', 3),
+        "BucketSaving::add new bucket" => added(lab, buckets(lab, 2), b'd', 4),
+        "BucketSaving::add with room left" => added(lab, buckets(lab, 3), b'd', 4),
         "BucketSaving::add moving a key" => added(lab, waiting(lab), b'd', 4),
-        "BucketSaving::add monitored" => added(lab, buckets(lab), b'c', 4),
-        "BucketSaving::into_summary" => translated(lab, buckets(lab)),
-        "BucketSaving readers" => readers(lab, buckets(lab)),
+        "BucketSaving::add monitored" => added(lab, buckets(lab, 2), b'c', 4),
+        "BucketSaving::into_summary" => translated(lab, buckets(lab, 2)),
+        "BucketSaving readers" => readers(lab, buckets(lab, 2)),
         "BucketSaving::new" => bucket_saving_new(lab),
         _ => Err(no_such_call(name)),
     }
 }
 
-// A monitor of two counters in buckets.
-fn buckets(lab: &Lab) -> Result<BucketSaving, Fail> {
-    Ok(BucketSaving::new(lab.alloc, 2)?)
+// A monitor of k + 1 counters in buckets.
+fn buckets(lab: &Lab, k: u64) -> Result<BucketSaving, Fail> {
+    Ok(BucketSaving::new(lab.alloc, k)?)
 }
 
 // Where c has 1 already, in the bucket of 1: before b is dropped, c moves to the bucket of 3, where
 // b is.
 fn waiting(lab: &Lab) -> Result<BucketSaving, Fail> {
-    let mut monitor = buckets(lab)?;
+    let mut monitor = buckets(lab, 2)?;
     add_one(lab, &mut monitor)?;
     Ok(monitor)
 }

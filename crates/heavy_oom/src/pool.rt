@@ -1,14 +1,15 @@
-//! The analyses of `hh_pool`.
+//! The plans, merges and analyses of `hh_pool`.
 
 ghost use Rattle.std.specs.Prelude.{◌≡◌, ◌*◌, IfOk, length, sum};
 
 use crate::lab::{Lab, Said, marked, no_such_call, told};
 use crate::show::{Counters, Report};
-use hh_counters::Candidates;
+use heavy::ToolError;
+use hh_counters::{Candidates, Summary, SummaryFault};
 use hh_countmin::Family;
 use hh_pool::{
     Gate, OpenGate, Options, Outcome, Plan, RunError, analyse, first_pass, first_pass_sequentially,
-    second_pass, second_pass_sequentially,
+    merge_by, second_pass, second_pass_sequentially,
 };
 use hh_shared::SharedSums;
 use hh_stream::{Cutting, Stream};
@@ -24,8 +25,41 @@ pub fn call<R: Threads + Wait + Sync>(rt: &R, lab: &Lab, name: &str) -> Result<S
         "analyse" => analysed(rt, lab, &lab.stream()?),
         "analyse many keys" => analysed_many(rt, lab),
         "Plan, Options and OpenGate" => plain_calls(lab),
+        _ => planned(lab, name),
+    }
+}
+
+// Makes the call on plans of four pieces, or a merge by one of two.
+fn planned(lab: &Lab, name: &str) -> Result<Said, Fail> {
+    let alloc = lab.alloc;
+    match name {
+        "Plan::chain" => told!(lab, Plan::chain(alloc, 4), AllocError),
+        "Plan::balanced" => told!(lab, Plan::balanced(alloc, 4), AllocError),
+        "Plan::parse" => parsed(lab, b"((0 1) (2 3))"),
+        "merge_by" => merged(lab, &Plan::chain(alloc, 2)?),
         _ => passed(lab, name),
     }
+}
+
+fn parsed(lab: &Lab, text: &[u8]) -> Result<Said, Fail> {
+    told!(lab, Plan::parse(lab.alloc, text, 4), ToolError::Memory)
+}
+
+// The summary of the items merged with itself.
+fn merged(lab: &Lab, plan: &Plan) -> Result<Said, Fail> {
+    let summaries = vec![in lab.alloc; lab.summary()?, lab.summary()?]?;
+    merge_all(lab, plan, summaries)
+}
+
+fn merge_all(lab: &Lab, plan: &Plan, summaries: Vec<Summary>) -> Result<Said, Fail> {
+    if plan.count() != summaries.len() {
+        return Err(Fail::new("a piece has a summary"));
+    }
+    told!(
+        lab,
+        merge_by(lab.alloc, plan, summaries),
+        SummaryFault::Memory
+    )
 }
 
 // Makes the call of one pass over the four items, in two pieces.

@@ -2,11 +2,41 @@
 
 use crate::lab::{Lab, Said, no_such_call, told};
 use hh_saved::{Saved, SavedFault, read, write};
-use std::alloc::AllocError;
+use std::alloc::{AllocError, Global};
 use std::test::Fail;
 
+/// Files of both versions that end where their entries or their rows would begin, of which they
+/// promise the most.
+const HEADS: [&[u8]; 4] = [
+    b"HHS1\x01\xff\xff\0\0\0\0\0\0\0\0\xff\xff",
+    b"HHS2\x01\xff\xff\0\0\0\0\0\0\0\0\xff\xff",
+    b"HHS1\x02\0\x01\0\0\x10",
+    b"HHS2\x02\0\x01\0\0\x10",
+];
+
 pub fn call(lab: &Lab, name: &str) -> Result<Said, Fail> {
-    called(lab, name, &Saved::Counters(lab.summary()?))
+    match name {
+        "read of heads" => heads_read(lab),
+        _ => called(lab, name, &Saved::Counters(lab.summary()?)),
+    }
+}
+
+// How many of the heads are told as truncated.
+fn heads_read(lab: &Lab) -> Result<Said, Fail> {
+    lab.begin();
+    let count = truncated(lab.alloc, &HEADS);
+    lab.end();
+    lab.answer(count)
+}
+
+fn truncated(alloc: Global, files: &[&[u8]]) -> usize {
+    let mut count = 0usize;
+    for file in files {
+        if read(alloc, file).err() == Some(SavedFault::Truncated) {
+            count = count.saturating_add(1);
+        }
+    }
+    count
 }
 
 // Makes the call, with the summary of the items.

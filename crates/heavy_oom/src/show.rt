@@ -2,12 +2,12 @@
 
 use crate::lab::{Lab, Said};
 use heavy::Heavy;
-use hh_counters::{BucketSaving, Monitor, Summary};
+use hh_counters::{BucketSaving, Candidates, Monitor, Summary};
 use hh_countmin::{Family, Table};
-use hh_pool::Outcome;
+use hh_pool::{Outcome, Plan};
 use hh_saved::Saved;
 use hh_shared::SumSeat;
-use hh_stream::{Cutting, Item, Key};
+use hh_stream::{Cutting, Item, Key, Stream};
 use std::fmt;
 use std::test::Fail;
 
@@ -43,17 +43,23 @@ fn pair<W: fmt::Write>(f: &mut fmt::Formatter<W>, key: &[u8], number: u64) -> fm
     write!(f, "{key} {number} ")
 }
 
-/// The items of a stream.
+/// A stream by all its readers.
 #[derive(Drop)]
-pub struct Items<'a>(pub &'a [Item]);
+pub struct Items<'a>(pub &'a Stream);
 
 impl fmt::Display for Items<'_> {
     fn fmt<W: fmt::Write>(&self, f: &mut fmt::Formatter<W>) -> fmt::Result {
-        for item in self.0 {
-            pair(f, item.key().bytes(), item.weight())?;
-        }
-        Ok(())
+        let (len, total) = (self.0.len(), self.0.total());
+        write!(f, "len {len} total {total}: ")?;
+        all_items(f, self.0.items())
     }
+}
+
+fn all_items<W: fmt::Write>(f: &mut fmt::Formatter<W>, items: &[Item]) -> fmt::Result {
+    for item in items {
+        pair(f, item.key().bytes(), item.weight())?;
+    }
+    Ok(())
 }
 
 /// A summary by all its readers.
@@ -63,17 +69,34 @@ pub struct Counters<'a>(pub &'a Summary);
 impl fmt::Display for Counters<'_> {
     fn fmt<W: fmt::Write>(&self, f: &mut fmt::Formatter<W>) -> fmt::Result {
         let (k, total, sum) = (self.0.k(), self.0.total(), self.0.sum());
-        write!(f, "k {k} total {total} sum {sum}: ")?;
+        let slack = self.0.slack();
+        write!(f, "k {k} total {total} sum {sum} slack {slack}: ")?;
         entries(f, self.0)
     }
 }
 
+// Writes each key with its counter by both readers.
 fn entries<W: fmt::Write>(f: &mut fmt::Formatter<W>, summary: &Summary) -> fmt::Result {
     for i in 0..summary.len() {
         let (key, counter) = summary.entry(i);
-        pair(f, key.bytes(), counter)?;
+        let (bytes, found) = (Hex(key.bytes()), summary.get(key));
+        write!(f, "{bytes} {counter} {found} ")?;
     }
     Ok(())
+}
+
+/// The keys of candidates.
+#[derive(Drop)]
+pub struct Keys<'a>(pub &'a Candidates);
+
+impl fmt::Display for Keys<'_> {
+    fn fmt<W: fmt::Write>(&self, f: &mut fmt::Formatter<W>) -> fmt::Result {
+        for i in 0..self.0.len() {
+            let key = Hex(self.0.key(i).bytes());
+            write!(f, "{key} ")?;
+        }
+        Ok(())
+    }
 }
 
 /// A family of hash functions.
@@ -129,6 +152,24 @@ pub trait Answer {
 impl Answer for Key {
     fn tell(&self, lab: &Lab) -> Result<Said, Fail> {
         lab.answer(Hex(self.bytes()))
+    }
+}
+
+impl Answer for Stream {
+    fn tell(&self, lab: &Lab) -> Result<Said, Fail> {
+        lab.answer(Items(self))
+    }
+}
+
+impl Answer for Candidates {
+    fn tell(&self, lab: &Lab) -> Result<Said, Fail> {
+        lab.answer(Keys(self))
+    }
+}
+
+impl Answer for Plan {
+    fn tell(&self, lab: &Lab) -> Result<Said, Fail> {
+        lab.answer(self.count())
     }
 }
 

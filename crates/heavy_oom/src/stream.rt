@@ -4,6 +4,7 @@ use crate::lab::{Lab, Said, marked, no_such_call, told};
 use crate::show::{Hex, Items};
 use hh_stream::{Cutting, Item, Key, PushRefused, Stream, StreamFault};
 use std::alloc::AllocError;
+use std::hash::{BuildHasher, BuildHasherDefault, FoldHasher};
 use std::test::Fail;
 
 pub fn call(lab: &Lab, name: &str) -> Result<Said, Fail> {
@@ -38,17 +39,30 @@ fn stream_readers(lab: &Lab, stream: &Stream, a: &Key) -> Result<Said, Fail> {
     let none = Stream::new(lab.alloc).len();
     let (len, total) = (stream.len(), stream.total());
     let is_first = is_first(stream.items(), a);
+    let is_hashed = has_hash_of_first(stream.items(), a);
     let is_one_byte = a.bytes().len() == 1;
     lab.end();
-    lab.answer(format_args!("{none} {len} {total} {is_first} {is_one_byte}"))
+    lab.answer(format_args!("{none} {len} {total} {is_first} {is_hashed} {is_one_byte}"))
 }
 
-// Whether the first item is this key with weight 5.
+// Whether the first item is this key with weight 5, and the second has a greater one.
 fn is_first(items: &[Item], key: &Key) -> bool {
+    match items {
+        [first, second, ..] => first.key() == key && first.weight() == 5 && key < second.key(),
+        _ => false,
+    }
+}
+
+// Whether the key has the hash of the first item's.
+fn has_hash_of_first(items: &[Item], key: &Key) -> bool {
     match items.first() {
-        Some(item) => item.key() == key && item.weight() == 5,
+        Some(item) => hash_of(item.key()) == hash_of(key),
         None => false,
     }
+}
+
+fn hash_of(key: &Key) -> u64 {
+    BuildHasherDefault::<FoldHasher>::new().hash_one(key)
 }
 
 // The calls on a cutting that take no memory.
@@ -79,12 +93,12 @@ fn pushed(lab: &Lab, stream: &mut Stream, key: Key) -> Result<Option<Key>, Fail>
 }
 
 fn lent(lab: &Lab, stream: &Stream, key: &Key) -> Result<(), Fail> {
-    lab.show(Items(stream.items()))?;
+    lab.show(Items(stream))?;
     lab.show(Hex(key.bytes()))
 }
 
 fn taken(lab: &Lab, stream: &Stream) -> Result<Option<Key>, Fail> {
-    lab.show(Items(stream.items()))?;
+    lab.show(Items(stream))?;
     let _said = lab.answer(stream.total())?;
     Ok(None)
 }
