@@ -21,23 +21,28 @@ import reference
 # The program heavy_oom marks a call by requests of these sizes.
 MARKS = {"REFUSE_FROM": "100003", "REFUSE_TO": "100019"}
 
-# The public calls that can answer Memory, by crate, but for those that a command of the program makes, or a call for C.
+# The public calls that can answer Memory, by crate, but for those that only a command of the program makes, or a call for C.
 CALLS = {
     "hh_stream": [
         "Key::new", "Key::of_bytes", "Key::copy", "Stream::push", "Cutting::even", "Cutting::by_lengths",
     ],
     "hh_counters": [
-        "Summary::add", "Summary::of_items", "Summary::merge", "SpaceSaving::add", "SpaceSaving::into_summary",
-        "BucketSaving::new", "BucketSaving::add", "BucketSaving::add new bucket", "BucketSaving::add moving a key",
-        "BucketSaving::into_summary",
+        "Summary::add", "Summary::add with room left", "Summary::of_items", "Summary::merge", "SpaceSaving::add",
+        "SpaceSaving::add with room left", "SpaceSaving::into_summary", "BucketSaving::new", "BucketSaving::add",
+        "BucketSaving::add new bucket", "BucketSaving::add with room left", "BucketSaving::add moving a key",
+        "BucketSaving::into_summary", "Candidates::of", "Candidates::select",
     ],
     "hh_countmin": ["Family::from_parts", "Family::draw", "Family::copy", "Table::new"],
     "hh_saved": ["read", "write"],
     "hh_shared": ["SharedSums::new", "SharedSums::close"],
     "hh_pool": [
-        "analyse", "first_pass", "first_pass_sequentially", "second_pass", "second_pass_sequentially",
+        "Plan::chain", "Plan::balanced", "Plan::parse", "merge_by", "analyse", "first_pass", "first_pass_sequentially",
+        "second_pass", "second_pass_sequentially",
     ],
-    "heavy": ["confirm"],
+    "heavy": [
+        "confirm", "read_stream", "report_text", "write_report", "run_report", "summary_bytes",
+        "summary_bytes by Space-Saving", "table_bytes", "merge_bytes", "ask_bytes", "confirm_bytes",
+    ],
 }
 
 # Calls that take no memory, many in one run.
@@ -48,17 +53,44 @@ TAKE_NONE = {
         "SpaceSaving readers", "BucketSaving readers", "SpaceSaving::add monitored", "BucketSaving::add monitored",
     ],
     "hh_countmin": ["Family readers", "Table::from_cells", "Table::add and merge", "Table readers"],
+    "hh_saved": ["read of heads"],
     "hh_shared": ["SharedSums seats"],
     "hh_pool": ["Plan, Options and OpenGate"],
     "heavy": ["put"],
 }
 
+# What some calls answer with keys of one byte, worked out by hand: summaries and files of a 4, b 1 of 11, the report of a 6.
+SAVED = "484853320100020000000000000%s000200016100000000000000%s000162000000000000000%s"
+ANSWERS = {
+    "Summary::add with room left": "k 4 total 15 sum 15 slack 0: 61 6 6 62 3 3 63 2 2 64 4 4 ",
+    "SpaceSaving::add with room left": "k 3 total 15 len 4 least 2: 6 3 2 4 ",
+    "BucketSaving::add with room left": "k 3 total 15 len 4 least 2: 6 3 2 4 ",
+    "Candidates::of": "61 62 ",
+    "Candidates::select": "61 6 ",
+    "Plan::chain": "4",
+    "Plan::balanced": "4",
+    "Plan::parse": "4",
+    "merge_by": "k 2 total 22 sum 10 slack 4: 61 8 8 62 2 2 ",
+    "read of heads": "4",
+    "read_stream": "len 4 total 11: 61 5 62 3 63 2 61 1 ",
+    "report_text": b"a,6\n".hex(),
+    "write_report": b"a,6\n".ljust(48, b"\0").hex(),
+    "run_report": b"a,6\n".ljust(48, b"\0").hex(),
+    "summary_bytes": SAVED % ("00b", "04", 1),
+    "summary_bytes by Space-Saving": SAVED % ("00b", "04", 1),
+    "merge_bytes": SAVED % ("016", "08", 2),
+    "ask_bytes": b"a,4,6\nz,0,2\n".hex(),
+    "confirm_bytes": b"a,6\n".hex(),
+    "Key and Stream readers": "0 4 11 true true true",
+}
+
 # How many lines tell what was lent to a call before it is made.
 LENT = {
-    "Stream::push": 2, "Summary::add": 1, "Summary::merge": 2, "SpaceSaving::add": 1,
-    "SpaceSaving::into_summary": 1, "SpaceSaving::add monitored": 1, "BucketSaving::add": 1,
-    "BucketSaving::add new bucket": 1, "BucketSaving::add moving a key": 1, "BucketSaving::add monitored": 1,
-    "BucketSaving::into_summary": 1,
+    "Stream::push": 2, "Summary::add": 1, "Summary::add with room left": 1, "Summary::merge": 2, "SpaceSaving::add": 1,
+    "SpaceSaving::add with room left": 1, "SpaceSaving::into_summary": 1, "SpaceSaving::add monitored": 1,
+    "BucketSaving::add": 1, "BucketSaving::add new bucket": 1, "BucketSaving::add with room left": 1,
+    "BucketSaving::add moving a key": 1, "BucketSaving::add monitored": 1, "BucketSaving::into_summary": 1,
+    "write_report": 1, "run_report": 1,
 }
 
 RECORDS = b"a,5\nb,3\nc,2\na,1\n"
@@ -172,6 +204,24 @@ def of_records(records: str, bad: str) -> list[Row]:
     ]
 
 
+def of_layouts(room: str, records: str) -> list[Row]:
+    """The greatest keys, and commands that read records in layouts that aren't plain."""
+    columns = f"{room}/columns.tsv"
+    Path(columns).write_bytes(b"bytes\thost\n5\t%b\n3\tb\n" % A)
+    objects, padded, lines = b'{"h":"a","n":5}\n{"n":3,"h":"b"}\n', b"  5 a\n 3   b\n1 a \n", b'a\n"b,c\na\n'
+    return [
+        (["top", "2"], LONG_RECORDS, (0, A + b",6\n" + B + b",3\n", b"")),
+        (["top", "--workers", "2", "2", records, records], b"", (0, A + b",12\n" + B + b",6\n", b"")),
+        (["report", "--k", "2", "-d", "\\t", "-H", "--key", "host", "--weight", "bytes", columns], b"",
+         (0, A + b",5\nb,3\n", b"")),
+        (["summarise", "--k", "2", "--json", "--key", "h", "--weight", "n"], objects,
+         (0, reference.summarise(b"a,5\nb,3\n", 2), b"")),
+        (["report", "--k", "2", "--squeeze", "--key", "2", "--weight", "1"], padded, (0, b"a,6\n", b"")),
+        (["report", "--k", "2", "--lines"], lines, (0, b"a,2\n", b"")),
+        (["top", "1", "--lines"], lines, (0, b"a,2\n", b"")),
+    ]
+
+
 def of_tables(room: str, records: str, empty: bytes) -> list[Row]:
     """The commands that make tables or read them, by the family of an empty one."""
     words, path = ["table", "--depth", "2", "--width", "4"], f"{room}/table"
@@ -238,7 +288,8 @@ def command_rows(program: str, room: str) -> list[Row]:
     Path(bad).write_bytes(b"a,5\nb,0\n")
     empty = programs.run([program, "table", "--depth", "2", "--width", "4"]).out
     return [
-        *of_records(records, bad), *of_tables(room, records, empty), *of_summaries(room, records, bad), *of_words(),
+        *of_records(records, bad), *of_layouts(room, records), *of_tables(room, records, empty),
+        *of_summaries(room, records, bad), *of_words(),
     ]
 
 
@@ -284,6 +335,9 @@ class RefusedMemory(programs.Checks):
                 self.refusing.tell([self.memory, of, name, length], 0, "it took memory")
             if made[of, name, "long"] == 0 and (of, name) in can and name != "SpaceSaving::into_summary":
                 self.refusing.tell([self.memory, of, name, length], 0, "it took no memory, so nothing was tried")
+            ample, _ = self.refusing.run([self.memory, of, name, length], 0, b"", MARKS)
+            if length == "short" and name in ANSWERS and not ample.out.endswith(f"answer {ANSWERS[name]}\n".encode()):
+                self.refusing.tell([self.memory, of, name, length], 0, f"it answers {ample.out!r}")
         self.check_all(rows)
 
     def test_many_keys(self) -> None:
