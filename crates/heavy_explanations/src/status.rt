@@ -43,8 +43,8 @@ fn explain(inputs: Inputs<'_>, fault: &ToolError, asked: &Invocation, compared: 
     explain_records(texts, fault);
 }
 
-/// Prints a fault of what was asked for. More about it comes where that is asked for, standard error
-/// is a terminal, or the fault is one of records that are named.
+/// Prints a fault of what was asked for. More about it comes where that is asked for, standard
+/// error is a terminal, or the fault is one of records that are named.
 fn print_explained(
     inputs: Inputs<'_>,
     fault: &ToolError,

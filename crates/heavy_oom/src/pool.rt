@@ -31,14 +31,21 @@ pub fn call<R: Threads + Wait + Sync>(rt: &R, lab: &Lab, name: &str) -> Result<S
 
 // Makes the call on plans of four pieces, or a merge by one of two.
 fn planned(lab: &Lab, name: &str) -> Result<Said, Fail> {
-    let alloc = lab.alloc;
     match name {
-        "Plan::chain" => told!(lab, Plan::chain(alloc, 4), AllocError),
-        "Plan::balanced" => told!(lab, Plan::balanced(alloc, 4), AllocError),
+        "Plan::chain" => chained(lab),
+        "Plan::balanced" => balanced(lab),
         "Plan::parse" => parsed(lab, b"((0 1) (2 3))"),
-        "merge_by" => merged(lab, &Plan::chain(alloc, 2)?),
+        "merge_by" => merged(lab, &Plan::chain(lab.alloc, 2)?),
         _ => passed(lab, name),
     }
+}
+
+fn chained(lab: &Lab) -> Result<Said, Fail> {
+    told!(lab, Plan::chain(lab.alloc, 4), AllocError)
+}
+
+fn balanced(lab: &Lab) -> Result<Said, Fail> {
+    told!(lab, Plan::balanced(lab.alloc, 4), AllocError)
 }
 
 fn parsed(lab: &Lab, text: &[u8]) -> Result<Said, Fail> {

@@ -21,7 +21,7 @@ pub fn call(lab: &Lab, name: &str) -> Result<Said, Fail> {
     }
 }
 
-// How many of the heads are told as truncated.
+// Counts the heads that are refused as truncated.
 fn heads_read(lab: &Lab) -> Result<Said, Fail> {
     lab.begin();
     let count = truncated(lab.alloc, &HEADS);

@@ -119,7 +119,7 @@ fn merges_are_refused_from_left_to_right_and_then_at_the_node(rt: HostRuntime) {
     }
 }
 
-// Texts, numbers of pieces, and why the text is no plan of so many.
+// Texts, numbers of pieces, and why the text is no plan of that many pieces.
 const NO_PLANS: [(&[u8], usize, TreeFault); 13] = [
     (b"(0 (1 1))", 3, TreeFault::RepeatedPiece(1)),
     (b"(0 1)", 3, TreeFault::MissingPiece(2)),
