@@ -7,7 +7,7 @@ usage: tests/asked.py
 """
 import os
 import re
-import subprocess
+import shutil
 import unittest
 from pathlib import Path
 
@@ -34,11 +34,11 @@ def why_bad(name: str, top: Path, room: str) -> str:
     edit = path_of(name, top)
     if not edit.is_file():
         return "it isn't there"
-    if not re.search(r"^file: src/", edit.read_text(), re.MULTILINE) or re.search(r"^file: (?!src/)", edit.read_text(), re.MULTILINE):
+    files = re.findall(r"^file: (.*)$", edit.read_text(), re.MULTILINE)
+    if not files or not all(it.startswith("src/") for it in files):
         return "it changes something else than code"
     copy = Path(room, name)
-    subprocess.run(["mkdir", "-p", str(copy)], check=True)
-    subprocess.run(["cp", "-R", str(edit.parent.parent / "src"), str(copy)], check=True)
+    shutil.copytree(edit.parent.parent / "src", copy / "src")
     applied = programs.run([str(programs.TOP / "bin" / "apply-edit"), str(edit), str(copy)], env=dict(os.environ))
     return applied.err.decode() if applied.status else ""
 
