@@ -15,7 +15,7 @@ failed=
 # how many processors the provers take, if not all
 most_jobs=
 # what takes long: on how many processors, its seconds by the clock, and those of one processor. A first build was timed last
-# with nothing beside it; what the tests use besides it, and all scripts of tests/, are told by docs/GATE.md's budget
+# with nothing beside it; what the tests use besides it, and all scripts of tests/, are estimates by docs/GATE.md's budget
 first_build=(4 711 2406)
 build_for_tests=(4 240 540)
 all_scripts=(4 600 780)
