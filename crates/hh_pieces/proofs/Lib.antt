@@ -1,6 +1,7 @@
 pub mod ChunkFacts
 pub mod CutFacts
 pub mod CutTextFacts
+pub mod FieldFacts
 pub mod FileFacts
 pub mod KnownFacts
 pub mod LineFacts

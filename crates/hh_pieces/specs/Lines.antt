@@ -1,7 +1,8 @@
 -- The records of a text without quotes, line by line.
-use Rattle.std.specs.Prelude.{◌≡◌, ◌==◌, ◌||◌, ◌&&◌, ◌+◌, ℕ, Bool, true, false, List, [], ◌∷◌, map, not, drop, Option, Some, None}
+use Rattle.std.specs.Prelude.{◌≡◌, ◌==◌, ◌||◌, ◌&&◌, ◌+◌, ◌<◌, ◌≤◌, ℕ, Bool, true, false, List, [], ◌∷◌, length, map, not, drop, Option, Some, None}
 use Rattle.std.specs.List.{AllByRecursion, filter, position_or_len, slice_split}
 use Rattle.csv.specs.Machine.{carriage_return, line_feed}
+use Rattle.memchr.specs.Find.{Nowhere, Passes, is_byte2}
 use Rattle.hh_records.specs.Streams.{Fields, Parts, parts_of}
 use Rattle.hh_records.specs.declared.format.Format.{Format}
 use Rattle.hh_records.specs.declared.format.Format.TheVariants as format
@@ -57,3 +58,14 @@ HasNoReturn text = AllByRecursion (λ c. (c == carriage_return) ≡ false) text
 -- the place of the first byte from this one on that ends a line, or the length of the text
 abbrev pub line_end : List ℕ → ℕ → ℕ
 line_end text from = from + position_or_len is_line_end (drop from text)
+
+-- whether a byte ends a field of a text without CR
+abbrev pub is_field_end : ℕ → ℕ → Bool
+is_field_end d c = is_byte2 d line_feed c
+
+-- a run that begins at a place ends at this one: at the first byte that passes the test, or with the text
+pub record EndsRun (test : ℕ → Bool) (text : List ℕ) (from end : ℕ) : Type 0 where
+  pub after : from ≤ end
+  pub within : end ≤ length text
+  pub before : Nowhere (Passes test text) from end
+  pub here : end < length text → Passes test text end

@@ -7,6 +7,7 @@
 mod chunks;
 mod cut_files;
 mod cuts;
+mod fields;
 mod growing;
 pub mod laws;
 mod lines;

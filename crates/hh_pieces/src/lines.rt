@@ -2,13 +2,14 @@
 //! its fields are what stands between separators.
 
 ghost use Rattle.std.specs.Bool.{OnTrue};
-ghost use Rattle.std.specs.Prelude.{◌≡◌, ◌≤◌, IfErr, OnOk, Ok, Some, length, map, option_map, true};
+ghost use Rattle.std.specs.Prelude.{◌≡◌, ◌≤◌, ◌==◌, false, IfErr, OnOk, Ok, Some, length, map, option_map, true};
 ghost use Rattle.hh_stream.specs.Weights.{max_total};
 ghost use Rattle.hh_stream.specs.Taking.{Takes};
 ghost use Rattle.hh_records.specs.Layouts.{RecordRefused, RowsRefused, adds, items_after};
 ghost use Rattle.hh_pieces.specs.Lines as spec;
 ghost use Rattle.hh_pieces.specs.Lines.{HasNoReturn, IsUnquoted, filled_lines, parts_in_line};
 
+use crate::fields::line_at;
 use hh_faults::TextError;
 use hh_records::{Format, Layout, take_parts};
 use hh_stream::TakeItems;
@@ -144,9 +145,8 @@ fn take_line<T: TakeItems>(
     )
 }
 
-/// Hands on what each line of a text adds, blank ones aside, where a line is cut into fields at
-/// `separator`, and counts those that are `bad`.
-pub(crate) fn read_lines<T: TakeItems>(
+/// Hands on what each line of any text adds, as [`read_lines`] does.
+fn read_any_lines<T: TakeItems>(
     alloc: Global,
     text: &[u8],
     separator: Option<u8>,
@@ -184,4 +184,67 @@ pub(crate) fn read_lines<T: TakeItems>(
         from = end + 1;
     }
     Ok(())
+}
+
+/// Hands on what each line of a text without CR adds that is cut at `delimiter`, as [`read_lines`]
+/// does. Each byte is looked at once.
+fn read_feed_lines<T: TakeItems>(
+    alloc: Global,
+    text: &[u8],
+    delimiter: u8,
+    taker: &mut T,
+    bad: &mut u64,
+    layout: &Layout,
+) -> Result<(), TextError>
+    requires no_return { HasNoReturn text.now }
+    requires apart { (delimiter == 10) ≡ false }
+    requires bounded { T.weight_taken taker.old ≤ max_total }
+    ensures items { OnOk result
+        (Takes T.with_item T.weight_taken taker.old taker.new (λ xs.
+        items_after layout.now 1 (T.weight_taken taker.old)
+        (map (parts_in_line (Some delimiter)) (filled_lines text.now)) ≡ Ok xs)) }
+    ensures bounded { OnOk result (T.weight_taken taker.new ≤ max_total) }
+    ensures refused { IfErr result (λ error.
+        RowsRefused layout.now 0 (T.weight_taken taker.old)
+        (Some (map (parts_in_line (Some delimiter)) (filled_lines text.now))) error) }
+{
+    let mut from = 0;
+    let mut number = 0;
+    while from < text.len() {
+        let (parts, end) = line_at(text, from, delimiter);
+        if from < end {
+            number += 1;
+            take_parts(alloc, taker, number, parts, bad, layout)?;
+        }
+        from = end + 1;
+    }
+    Ok(())
+}
+
+/// Hands on what each line of a text adds, blank ones aside, where a line is cut into fields at
+/// `separator`, and counts those that are `bad`.
+pub(crate) fn read_lines<T: TakeItems>(
+    alloc: Global,
+    text: &[u8],
+    separator: Option<u8>,
+    taker: &mut T,
+    bad: &mut u64,
+    layout: &Layout,
+) -> Result<(), TextError>
+    requires bounded { T.weight_taken taker.old ≤ max_total }
+    ensures items { OnOk result
+        (Takes T.with_item T.weight_taken taker.old taker.new (λ xs.
+        items_after layout.now 1 (T.weight_taken taker.old)
+        (map (parts_in_line separator) (filled_lines text.now)) ≡ Ok xs)) }
+    ensures bounded { OnOk result (T.weight_taken taker.new ≤ max_total) }
+    ensures refused { IfErr result (λ error.
+        RowsRefused layout.now 0 (T.weight_taken taker.old)
+        (Some (map (parts_in_line separator) (filled_lines text.now))) error) }
+{
+    if let Some(delimiter) = separator {
+        if delimiter != b'\n' && has_no_return(text) {
+            return read_feed_lines(alloc, text, delimiter, taker, bad, layout);
+        }
+    }
+    read_any_lines(alloc, text, separator, taker, bad, layout)
 }

@@ -1,0 +1,10 @@
+use Rattle.hh_pieces.specs.Lines.{is_field_end}
+use Rattle.hh_pieces.proofs.FieldFacts.{run-found, run-none}
+use Rattle.hh_pieces.proofs.fields.far_end.Goals as goal
+
+pub returns-in-Some : goal.returns-in-Some
+returns-in-Some c =
+    run-found (is_field_end c.args.delimiter) c.args.text.now c.args.from c.requires.within c.in-Some.run' c.in-Some.ensures.0 c.in-Some.ensures.1
+
+pub returns-in-None : goal.returns-in-None
+returns-in-None c = run-none (is_field_end c.args.delimiter) c.args.text.now c.args.from c.requires.within c.in-None.ensures

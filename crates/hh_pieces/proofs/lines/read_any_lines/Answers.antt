@@ -1,0 +1,72 @@
+use Rattle.std.proofs.Common.{◌++◌, ◌<◌, [], arith, ◌∙◌, sym, refl, ap}
+use Rattle.std.specs.Prelude.{fold}
+use Rattle.std.proofs.lemmas.List.Elements.{All-append, All-from_recursion}
+use Rattle.std.proofs.lemmas.List.Sums.{fold-append, sum_by-append}
+use Rattle.std.proofs.lemmas.Result.{err_from_is_err_and}
+use Rattle.hh_stream.specs.Weights.{Entry}
+use Rattle.hh_pieces.proofs.SplitFacts.{lines-blank, lines-more, lines-none, lines-refused}
+use Rattle.hh_pieces.proofs.lines.read_any_lines.Goals as goal
+use Rattle.hh_pieces.proofs.lines.read_any_lines.Goals.{then-from-end+in_ok-take_line, else-from-end}
+
+-- an item has a weight
+abbrev Weighs : Entry → Type 0
+Weighs e = 0 < e.1
+
+pub loop-from-init : goal.loop-from-init
+loop-from-init g c = (
+  c.requires.bounded,
+  omega arith,
+  (
+    [],
+    omega arith,
+    All-from_recursion Weighs [] tt,
+    refl,
+    lines-none c.args.layout.now c.args.separator (g.T.TakeItems.weight_taken c.args.taker.now) c.args.text.now,
+  ),
+)
+
+pub returns-in_err-take_line-clause-refused : goal.returns-in_err-take_line-clause-refused
+returns-in_err-take_line-clause-refused g c =
+    let p = err_from_is_err_and c.from_residual.result c.from_residual.ensures.1 in
+    let (xs, total, weigh, made, so_far) = c.loop-from.invariant.2 in
+    let line = c.line_end-end.ensures in
+    rw (p.1, p.2) (lines-refused c.args.layout.now c.args.separator (g.T.TakeItems.weight_taken c.args.taker.now) c.args.text.now
+    c.loop-from.from c.line_end-end.result xs c.loop-from.number line.after line.within line.end so_far c.if-from-end.true
+    c.in_err-take_line.field-0.0 (rw (← total) c.in_err-take_line.ensures.refused))
+
+pub loop-from-preserved : goal.loop-from-preserved
+loop-from-preserved g c =
+    let (xs, total, weigh, made, so_far) = c.loop-from.invariant.2 in
+    let line = c.line_end-end.ensures in
+    elim c.if-from-end.branch [
+      | then-from-end+in_ok-take_line w ↦
+          let t = w.in_ok-take_line.ensures.taken in
+          rw (w.taker-is, w.number-is) (
+            w.in_ok-take_line.ensures.bounded,
+            omega (arith, c.loop-from.invariant.1, w.if-from-end.true),
+            (
+              xs ++ t.xs,
+              omega (arith, t.weight, total, sum_by-append (λ (d : Entry). d.1) xs t.xs),
+              All-append Weighs xs t.xs weigh t.positive,
+              t.taken ∙ ap (λ taker. fold g.T.TakeItems.with_item taker t.xs) made
+                  ∙ sym (fold-append g.T.TakeItems.with_item c.args.taker.now xs t.xs),
+              lines-more c.args.layout.now c.args.separator (g.T.TakeItems.weight_taken c.args.taker.now) c.args.text.now
+                  c.loop-from.from c.line_end-end.result xs c.loop-from.number line.after line.within line.end so_far w.if-from-end.true t.xs
+                  (rw (← total) t.given),
+            ),
+          )
+      | else-from-end w ↦
+          rw (w.taker-is, w.number-is) (
+            c.loop-from.invariant.0,
+            omega (arith, c.loop-from.invariant.1, line.after),
+            (
+              xs,
+              total,
+              weigh,
+              made,
+              lines-blank c.args.layout.now c.args.separator (g.T.TakeItems.weight_taken c.args.taker.now) c.args.text.now
+                  c.loop-from.from c.line_end-end.result xs c.loop-from.number line.after line.within line.end so_far
+                  (omega (arith, w.if-from-end.false)),
+            ),
+          )
+    ]

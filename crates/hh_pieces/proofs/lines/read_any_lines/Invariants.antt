@@ -1,0 +1,16 @@
+use Rattle.std.proofs.Common.{◌≡◌, ◌<◌, ◌≤◌, ◌-◌, ◌+◌, length, List}
+use Rattle.std.specs.Prelude.{All, fold}
+use Rattle.hh_stream.specs.Weights.{Entry, total_of, max_total}
+use Rattle.hh_pieces.proofs.SplitFacts.{LinesRead}
+use Rattle.hh_pieces.proofs.lines.read_any_lines.Given as goal
+
+abbrev pub invariant-loop-from : goal.invariant-loop-from
+invariant-loop-from g l = (g.T.TakeItems.weight_taken l.taker ≤ max_total)
+    × (l.number ≤ l.from)
+    × ((xs : List Entry)
+    × (g.T.TakeItems.weight_taken l.taker ≡ g.T.TakeItems.weight_taken l.initial.taker + total_of xs)
+    × All (λ (e : Entry). 0 < e.1) xs × (l.taker ≡ fold g.T.TakeItems.with_item l.initial.taker xs)
+    × LinesRead l.fn.layout l.fn.separator (g.T.TakeItems.weight_taken l.initial.taker) l.fn.text l.from xs l.number)
+
+abbrev pub decreases-loop-from : goal.decreases-loop-from
+decreases-loop-from g l = length l.fn.text - l.from
