@@ -1,6 +1,6 @@
 #!/usr/bin/env python3
 """Runs each command over a file that is changed before any one of its reads: appended to, made shorter, replaced by name, or
-written to in place. A file that grows is read to a line's end; of one that was changed otherwise nothing is said.
+written to in place. A file that grows is read to a record's end; of one that was changed otherwise nothing is said.
 
 usage: tests/changing_files.py
 """
@@ -70,6 +70,13 @@ CHANGES = [
 
 HALF_A_LINE = Change("given half a line", lambda path: add(path, b"d,99"), keeps=True)
 
+# Records that end within quotes, and the rest of the last one.
+IN_QUOTES, REST_OF_QUOTES = HEAVY + b'"one\ntwo', b'\nthree",500\n'
+QUOTES_CLOSED = Change("appended to within quotes", lambda path: add(path, REST_OF_QUOTES + LATER), grows=True)
+# More of the last record, which isn't whole then either.
+STILL_A_HALF = Change("given more of its last line", lambda path: add(path, b"0"))
+STILL_QUOTED = Change("given a line feed within quotes", lambda path: add(path, b"\nthree"))
+
 
 @dataclass(frozen=True)
 class Command:
@@ -133,10 +140,10 @@ class Changing(programs.Checks):
         self.check(name, 1 < len(found) < MOST_READS - 1, len(found))
         return found
 
-    def check_change(self, command: Command, text: bytes, change: Change) -> None:
-        """The change before each read."""
+    def check_change(self, command: Command, text: bytes, change: Change, rest: bytes = REST) -> None:
+        """The change before each read, where the last record goes on with the rest."""
         name = f"{command.name} of a file that is {change.name}"
-        short, grown = self.plain(command.words, text), self.plain(command.words, text + REST)
+        short, grown = self.plain(command.words, text), self.plain(command.words, text + rest)
         refused = (1, b"", b"heavy: file %d: could not be read\n" % command.number)
         self.check(f"{command.name} of both", grown[0] == 0 and short != grown, (short, grown))
         found = self.said_after(command, text, change)
@@ -154,10 +161,10 @@ class Changing(programs.Checks):
             for change in CHANGES:
                 self.check_change(command, text, change)
 
-    def commands(self, layout: list[str], text: bytes) -> list[Command]:
+    def commands(self, layout: list[str], text: bytes, rest: bytes = REST) -> list[Command]:
         """Each command that reads records, by workers and by one thread. The saved summary is of the records with the whole
-        line."""
-        self.write(text + REST)
+        last one."""
+        self.write(text + rest)
         path = str(self.path)
         made = self.run_on(["summarise", "--k", "5", *layout, path], 0, None)[1]
         Path(self.saved).write_bytes(made[1])
@@ -183,6 +190,25 @@ class Changing(programs.Checks):
             wanted = self.plain(command.words, text)
             others = [said for said in self.said_after(command, text, HALF_A_LINE) if said != wanted]
             self.check(f"{command.name} of a file that is given half a line", not others and wanted[0] == 0, others[:2])
+
+    def test_quotes(self) -> None:
+        """A file that ends within quotes is read to where the record ends, if it has grown to there."""
+        for command in self.commands([], IN_QUOTES, REST_OF_QUOTES):
+            self.check_change(command, IN_QUOTES, QUOTES_CLOSED, REST_OF_QUOTES)
+        self.write(IN_QUOTES)
+        said = self.run_on(["report", "--k", "50", str(self.path)], 1, QUOTES_CLOSED)[1]
+        self.check("a row of the whole record", said == (0, b'a,9000\nb,9000\n"one\ntwo\nthree",500\n', b""), said)
+
+    def test_half_records(self) -> None:
+        """A file whose last record isn't whole yet when the reader comes there is refused."""
+        for text, change in ((MANY_KEYS, STILL_A_HALF), (IN_QUOTES, STILL_QUOTED)):
+            for command in self.commands([], text):
+                refused = (1, b"", b"heavy: file %d: could not be read\n" % command.number)
+                short, found = self.plain(command.words, text), self.said_after(command, text, change)
+                name = f"{command.name} of a file that is {change.name}"
+                self.check(f"{name}: it is refused", found[0] == refused, found[0])
+                others = [said for said in found if said not in (short, refused)]
+                self.check(f"{name}, or read as it was before", not others, others[:2])
 
     def test_pieces(self) -> None:
         """Files of two pieces."""

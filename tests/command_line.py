@@ -410,6 +410,10 @@ class CommandLine(programs.Checks):
         self.refuses(["condense", "--", "-four"], "record 2: zero weight", 3, b"a,5\nb,0\n")
         self.refuses(["condense", "table"], "file 1: not a counter summary", 3)
         self.refuses(["ask", b"\xff", "a"], "file 1: could not be read", 1)
+        # inputs are opened before the numbers of options are tested
+        for words in (["report", "--k", "0"], ["report", "--workers", "0"], ["top", "--workers", "0", "1"]):
+            self.refuses([*words, "none"], "file 1: could not be read", 1)
+            self.check(f"{words} is refused", self.heavy([*words, "0.heavy"])[0] == 2)
         for name in ("--k", "--help", "--progress"):
             for command in (["condense"], ["confirm"], ["merge", "0.heavy"]):
                 place = len(command)

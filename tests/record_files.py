@@ -863,6 +863,21 @@ class RecordFiles(programs.Checks):
                 self.expect([*words, "--bad-as", "c", names[0]], (0, whole[1], said))
                 self.expect([*words, "--bad-as", "c", *([] if "saved" in words else ["-"])], (0, whole[1], said), text)
 
+    def test_bad_as_of_many_keys(self) -> None:
+        """A bad record counts once where counters are lost, and the records are read again: by a report behind 4,096 keys, by
+        the greatest keys behind 131,072, and behind as many as have room in a megabyte."""
+        keys = b"".join(b"k%06d\n" % number for number in range(150_000))
+        bad = b",\n" * 300
+        names = self.save([b"a,1000\n" + keys + bad + b"b,900\nb,x\n", bad + keys[: 8 * 6_000] + b"a,1000\n"])
+        rows = b"a,1000\nb,900\nbad,301\n"
+        for words, name, expected, count in (
+            (["report", "--k", "600"], names[0], rows, 301),
+            (["report", "--k", "50"], names[1], b"a,1000\nbad,300\n", 300),
+            (["top", "3", "--memory", "1"], names[0], rows, 301), (["top", "3"], names[0], rows, 301),
+        ):
+            for workers in ("1", "2", "4"):
+                self.expect([*words, "--workers", workers, "--bad-as", "bad", name], (0, expected, bad_line(count, b"bad")))
+
     def test_decimals(self) -> None:
         """Saved files of weights with a point, by hand: 0.625, 3 and 2.75 of 6.375 are two counters of 2.375 and 2.125."""
         saved, names = "prices", self.save([PRICES, b"b,3\n", b"a,.625\nc,2.750\n"])

@@ -26,11 +26,12 @@ pub(crate) fn size_in(metadata: &Metadata) -> Option<u64> {
     (metadata.is_file() && metadata.len() > 0).then_some(metadata.len())
 }
 
-/// Makes an open `file` ready to be read from its start.
-pub(crate) fn source_of(file: File) -> InputSource {
+/// Makes an open `file` ready to be read from its start. A `delimiter` is given where fields may
+/// be quoted.
+pub(crate) fn source_of(file: File, delimiter: Option<u8>) -> InputSource {
     match file.metadata() {
         Ok(metadata) if size_in(&metadata).is_some() => {
-            InputSource::Disk(GrowingFile::new(file, &metadata), 0)
+            InputSource::Disk(GrowingFile::new(file, &metadata, delimiter), 0)
         }
         _ => InputSource::File(file),
     }

@@ -114,7 +114,7 @@ impl<'a> Inputs<'a> {
         let source = match open_input(self.rt, name, number, is_taken, &self.notes.unread)? {
             Named::Standard => InputSource::Standard(self.rt.stdin()),
             Named::Nothing => InputSource::Nothing,
-            Named::File(file) => source_of(file),
+            Named::File(file) => source_of(file, self.form.quoted_by()),
         };
         Ok(OpenInput { source, number })
     }
@@ -196,7 +196,8 @@ impl<'a> Inputs<'a> {
         let Ok(mut buffer) = vec![in self.rt.alloc(); 0u8; LOOK_LEN] else {
             return;
         };
-        let mut input = self.input(source_of(file), number, false);
+        let source = source_of(file, self.form.quoted_by());
+        let mut input = self.input(source, number, false);
         read_all(&mut input, &mut buffer);
     }
 

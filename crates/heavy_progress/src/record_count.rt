@@ -8,6 +8,13 @@ pub struct Form {
     pub has_header: bool,
 }
 
+impl Form {
+    /// Gives the byte between fields that may be quoted, if they may.
+    pub fn quoted_by(&self) -> Option<u8> {
+        (self.delimiter != b'"').then_some(self.delimiter)
+    }
+}
+
 /// What the byte before the next one was part of.
 #[derive(Clone, Copy, PartialEq, Eq)]
 pub(crate) enum RecordState {

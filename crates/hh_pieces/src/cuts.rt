@@ -11,7 +11,7 @@ use memchr::{memchr, memrchr};
 
 /// A place in a text, as far as it tells what a quote does there.
 #[derive(Clone, Copy)]
-enum QuoteState {
+pub(crate) enum QuoteState {
     /// At the start of a field: a quote opens it.
     Start,
     /// In a field with no quotes around it: a quote is a byte of the field.
@@ -23,7 +23,7 @@ enum QuoteState {
 }
 
 /// Whether a line feed ends a record here.
-fn is_open(place: QuoteState) -> bool
+pub(crate) fn is_open(place: QuoteState) -> bool
     ensures { result ≡ spec.is_open place }
 {
     match place {
@@ -52,6 +52,19 @@ fn quote_after(place: QuoteState, delimiter: u8) -> QuoteState
         QuoteState::Field => plain_after(b'"', delimiter),
         QuoteState::Quoted => QuoteState::Left,
         QuoteState::Left => QuoteState::Quoted,
+    }
+}
+
+/// The place after one more byte.
+pub(crate) fn place_next(place: QuoteState, byte: u8, delimiter: u8) -> QuoteState
+    ensures { result ≡ spec.place_next delimiter place byte }
+{
+    if byte == b'"' {
+        quote_after(place, delimiter)
+    } else if is_open(place) {
+        plain_after(byte, delimiter)
+    } else {
+        place
     }
 }
 
