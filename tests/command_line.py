@@ -212,13 +212,14 @@ class CommandLine(programs.Checks):
             self.check(f"top {words}", (status, out, err[:6]) == (2, b"", b"error:"), err)
 
     def test_top_left_open(self) -> None:
-        """Of one key more than there are counters at first, which all weigh 1, none is certain where these can't grow; of as many
-        all are. A key that weighs more is certain."""
-        ones = [b"k%06d\n" % number for number in range(131_073)]
+        """Of one key more than a megabyte has counters for, which all weigh 1, none is certain; of as many all are. A key that
+        weighs more is certain. How many workers there are decides nothing."""
+        ones = [b"k%06d\n" % number for number in range(7_813)]
         few = ["top", "--explain", "--memory", "1"]
-        told = "of the greatest keys only %d are certain\n  the next key weighs at most 1"
+        told = "of the greatest keys only %d are certain\n  the next key weighs at most 1: a --memory above 1 leaves less open"
         self.expect([*few, "2"], (0, b"k000001,1\nk000002,1\n", b""), b"".join(ones[1:]))
-        self.refuses([*few, "1"], told % 0, 3, b"".join(ones))
+        for workers in "1248":
+            self.refuses([*few, "--workers", workers, "1"], told % 0, 3, b"".join(ones))
         self.expect(["top", "2"], (0, b"k000000,1\nk000001,1\n", b""), b"".join(ones))
         self.expect([*few, "1"], (0, b"big,2\n", b""), b"".join(ones) + b"big,2\n")
         self.refuses([*few, "2"], told % 1, 3, b"".join(ones) + b"big,2\n")

@@ -1,7 +1,7 @@
 #!/usr/bin/env python3
 """Summarises, tabulates, condenses and confirms few and many records, and has workers tabulate, condense, confirm and report
 those of a file, with limited address space: none of them needs more for many records than for few, or for a long field than
-for a short one. What they answer is checked beside.
+for a short one, and the greatest of many long keys no more than those of few. What they answer is checked beside.
 
 usage: tests/one_pass.py
 """
@@ -107,6 +107,19 @@ class OnePass(programs.Checks):
             with_feeds.write_bytes(many.replace(b"\r", b"\n"))
             there = programs.run([*runs[1][:-1], str(with_feeds)])
             self.check(f"{name} as with line feeds", ample.out == there.out, there.err)
+
+    def test_top_of_long_keys(self) -> None:
+        """The greatest of many long keys, for which --memory has no room, take no more memory than those of few."""
+        program = programs.built("heavy_cli")
+        for name, count in (("few", 2_000), ("many", 20_000)):
+            long = b"".join(b"%04096d,1\n" % number for number in range(count))
+            Path(self.room, f"{name}.csv").write_bytes(b"heavy,90000\n" + long)
+        for workers in "14":
+            few, many = ([program, "top", "--memory", "1", "--workers", workers, "1", f"{self.room}/{of}.csv"] for of in ("few", "many"))
+            least = next((size for size in range(STEP, MOST, STEP) if within(few, b"", size).status == 0), MOST)
+            limited = within(many, b"", least + MORE)
+            said = f"{least} KB are enough for few keys, and {MORE} KB more were not for many: {limited.err!r}"
+            self.check(f"top of long keys by {workers}", least < MOST and limited.out == b"heavy,90000\n", said)
 
     def test_long_fields(self) -> None:
         """A record takes no more memory where a field of it is longer, whether it is refused or not."""

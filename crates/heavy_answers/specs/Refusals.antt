@@ -1,6 +1,6 @@
 -- What a refusal to answer a request says, by the bytes that are given of the files that it names.
 use Rattle.std.specs.Io.KnownBytes.{Keeps}
-use Rattle.std.specs.Prelude.{ℕ, ◌≡◌, ◌⊎◌, ◌+◌, ◌-◌, ◌^◌, ◌<◌, min, Bool, false, true, List, [], ◌∷◌, Option, Some, None, map, length, slice_index_or}
+use Rattle.std.specs.Prelude.{ℕ, ◌≡◌, ◌⊎◌, ◌+◌, ◌-◌, ◌^◌, ◌<◌, ◌*◌, min, Bool, false, true, List, [], ◌∷◌, Option, Some, None, map, length, slice_index_or}
 use Rattle.hh_stream.specs.Ranges.{in_range}
 use Rattle.hh_workers.specs.Workers.{max_workers}
 use Rattle.hh_records.specs.LayoutWords.{LayoutRefused}
@@ -112,14 +112,19 @@ SummaryFails opens unopened words k method workers e =
     (NamesNoMethod method × (e ≡ tool.BadMethod))
     ⊎ ReadingFails opens unopened words 0 workers (RefusedAfter (bad_summary_of_files k workers)) e
 
+-- how many bytes so many megabytes are, as far as a number has room
+abbrev pub bytes_of : ℕ → ℕ
+bytes_of memory = min (memory * 1000000) (2 ^ 64 - 1)
+
 -- the greatest keys are refused: the inputs can't be opened, the workers are refused before anything is read, or behind them
 -- an input can't be kept; or the library refuses them
-abbrev pub TopFails : (Bool → List ℕ → Option (List ℕ) → Type 0) → (List ℕ → ℕ → ToolError → Type 0) → RecordWords → ℕ → ℕ
+abbrev pub TopFails : (Bool → List ℕ → Option (List ℕ) → Type 0) → (List ℕ → ℕ → ToolError → Type 0) → RecordWords → ℕ → ℕ → ℕ
     → ToolError → Type 0
-TopFails opens unopened words n workers e =
+TopFails opens unopened words n workers memory e =
     OpenRefused unopened words 0 e ⊎ ((in_range workers max_workers ≡ false) × (e ≡ tool.BadWorkers))
     ⊎ ((in_range workers max_workers ≡ true) × IsUnkept e)
-    ⊎ OfRecords opens words (λ _ known. TopFilesRefused n workers known e)
+    ⊎ OfRecords opens words
+    (λ _ known. TopFilesRefused (record { n = n; workers = workers; memory = bytes_of memory }) known e)
 
 -- the file in this place can't be read, which is reported by its number
 pub record IsUnreadAt (gives : List ℕ → Option (List ℕ) → Type 0) (names : List (List ℕ)) (e : ToolError) (place : ℕ) : Type 0 where
@@ -141,7 +146,8 @@ SavedFails gives name Fails e =
 -- a command is refused: by its options, by a file that can't be read, or as the library refuses what it is asked for
 abbrev pub CommandFails : (List ℕ → Option (List ℕ) → Type 0) → (Bool → List ℕ → Option (List ℕ) → Type 0)
     → (List ℕ → ℕ → ToolError → Type 0) → Command → RecordWords → Bool → ToolError → Type 0
-CommandFails gives opens unopened (Top n rows workers memory) words refuses e = TopFails opens unopened words n workers e
+CommandFails gives opens unopened (Top n rows workers memory) words refuses e =
+    TopFails opens unopened words n workers memory e
 CommandFails gives opens unopened (Summarise k method workers) words refuses e =
     SummaryFails opens unopened words k method.items workers e
 CommandFails gives opens unopened (Table width depth seed workers) words refuses e =

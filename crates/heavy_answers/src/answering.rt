@@ -56,7 +56,7 @@ fn top<T: Threads + Wait + Sync, H: Host>(
     ensures made { IfOk result (λ bytes. OfRecords (H.opens host.now) words.now
         (λ _ known. PrintsTop rows.now n known bytes.items)) }
     ensures refused { IfErr result
-        (TopFails (H.opens host.now) (H.unopened host.now) words.now n workers) }
+        (TopFails (H.opens host.now) (H.unopened host.now) words.now n workers memory) }
 {
     let opened = open(host, words, 0)?;
     if !in_range(workers, MAX_WORKERS) {

@@ -81,8 +81,15 @@ pub(crate) fn explain_comparison(
                 tell_outside(rt, "  ", name, outside, decimals);
             }
         }
-        ToolError::TopUncertain { most, .. } => tell_next(rt, *most, decimals),
         _ => {}
+    }
+}
+
+/// Prints more about the `fault` of the greatest keys that were `asked` for, where counters leave
+/// them open.
+pub(crate) fn explain_top(rt: &HostRuntime, fault: &ToolError, asked: &Invocation) {
+    if let ToolError::TopUncertain { most, .. } = fault {
+        tell_next(rt, *most, asked.records.layout.decimals, asked.memory);
     }
 }
 

@@ -8,7 +8,9 @@ ghost use Rattle.hh_faults.specs.Status.{status_of};
 
 use crate::comparisons::tell_outside;
 use crate::escaped::Lines;
-use crate::explain::{explain_comparison, explain_file, explain_records, names_records};
+use crate::explain::{
+    explain_comparison, explain_file, explain_records, explain_top, names_records,
+};
 use crate::file_names::FileNames;
 use crate::notes::{print_bad, print_few_keys, print_format_hint, print_long};
 use crate::record_place::Texts;
@@ -34,6 +36,7 @@ fn explain(inputs: Inputs<'_>, fault: &ToolError, asked: &Invocation, compared: 
     }
     explain_file(rt, names, fault, &notes.unread);
     explain_comparison(rt, names.name(1), fault, compared, records.layout.decimals);
+    explain_top(rt, fault, asked);
     let texts = Texts {
         rt,
         records,

@@ -1,15 +1,14 @@
 -- The greatest keys of files that are read twice.
-use Rattle.std.proofs.Common.{◌≡◌, ◌∙◌, ℕ, ◌≤◌, Bool, List, [], ◌∷◌, Option, Some, None, refl, sym, ap, subst, arith, fold, map}
-use Rattle.std.specs.Prelude.{IfSome, IsSome, option_map, true}
+use Rattle.std.proofs.Common.{◌≡◌, ◌∙◌, ℕ, ◌/◌, ◌≤◌, ⊎_elim, inl, inr, Bool, List, [], ◌∷◌, Option, Some, None, Result, Ok, Err, refl, sym, ap, subst, arith, fold, map}
+use Rattle.std.specs.Prelude.{IfErr, IfSome, IsSome, option_map, true}
 use Rattle.hh_stream.specs.Cuttings.{whole_of}
 use Rattle.hh_stream.specs.Ranges.{in_range}
 use Rattle.hh_stream.specs.Weights.{Bytes, Entry, max_total, total_of}
-use Rattle.hh_summaries.specs.Counters.{max_k}
 use Rattle.hh_counters.specs.Counting.{Count, count_of}
 use Rattle.hh_tally.specs.Laws.{BoundsFollow}
 use Rattle.hh_tally.specs.Tallies.{AreBounds, TallyView, empty_tally, tally_with}
 use Rattle.hh_tally.specs.declared.room.Room.{Room}
-use Rattle.hh_top.specs.Top.{GreatestRefused, IsTopFault, top}
+use Rattle.hh_top.specs.Top.{GreatestRefused, IsTopFault, IsUncertain, ShortlistView, stand_out, top}
 use Rattle.hh_pieces.specs.CutTexts.{AreReadByPieces}
 use Rattle.hh_pool.specs.Tallied.{BoundsSome}
 use Rattle.hh_records.specs.Layouts.{stream_with}
@@ -22,15 +21,30 @@ use Rattle.hh_rows.specs.Printed.{printed_rows}
 use Rattle.hh_rows.specs.declared.printed.RowOptions.{RowOptions}
 use Rattle.hh_commands.specs.Records.{CountsRecords}
 use Rattle.hh_files.specs.ReportFiles.{items_or_too_many, lists_of}
-use Rattle.hh_files.specs.TopFiles.{FindsTop, PrintsTop, TalliesRecords, TopFilesRefused, TopRefused}
+use Rattle.hh_files.specs.TopFiles.{FindsTop, IsSharedRoom, ListRefused, PrintsTop, TalliesRecords, TellsTop, TopFilesRefused, TopRefused, counted_in, shared_room, whole_room}
+use Rattle.hh_files.specs.declared.topping.TopOptions.{TopOptions}
 use Rattle.hh_files.proofs.FilePieceFacts.{each_is_read}
 use Rattle.hh_faults.specs.declared.error.ToolError.{ToolError}
 use Rattle.hh_faults.specs.declared.error.ToolError.TheVariants as tool
 
 -- records that are refused refuse their greatest keys
-pub records_refuse : (n : ℕ) (known : Known) (e : ToolError) → RecordsRefused known e → TopRefused n known e
-records_refuse n known (tool.TopUncertain certain most) h = absurd h
-records_refuse n known e h = h
+pub records_refuse : (n k : ℕ) (known : Known) (e : ToolError) → RecordsRefused known e → TopRefused n k known e
+records_refuse n k known (tool.TopUncertain certain most) h = absurd h
+records_refuse n k known e h = h
+
+-- by whatever shortlist
+pub records_refuse_list : (list : ShortlistView) (known : Known) (e : ToolError) → RecordsRefused known e
+    → ListRefused list known e
+records_refuse_list list known e h = λ k _. records_refuse list.n k known e h
+
+-- what a shortlist of this memory refuses is decided by the memory
+pub shared_refused : (options : TopOptions) (list : ShortlistView) (known : Known) (e : ToolError) → list.n ≡ options.n
+    → IsSharedRoom options list → ListRefused list known e → TopRefused options.n (counted_in options.memory) known e
+shared_refused options list known e same shared h =
+    let k = counted_in options.memory in
+    subst (λ n. TopRefused n k known e) same (h k (⊎_elim
+    (λ (own : TellsTop list × (list.tally.room ≡ shared_room (options.memory / options.workers))). inl own.0)
+    (λ (all : (list.k ≡ k) × (list.tally.room ≡ whole_room options.memory)). inr (sym all.0)) shared))
 
 -- a count is one of its own keys
 pub keys_counted : (known : Known) (ks : List Bytes) (counts : Count) → CountsRecords known ks counts → counts.keys ≡ ks
@@ -59,21 +73,45 @@ module _ (names : Bool) (n : ℕ) (room : Room) (t : TallyView) (ks : List Bytes
       ∙ ap (λ ks. count_of ks xs) (sym (ap (λ (c : Count). c.keys) counted)) in
       (xs, read, bounds.counted, found xs bounds own)
 
-  -- and so is what a refusal tells
+module _ (names : Bool) (list : ShortlistView) (room : Room) (ks : List Bytes) (counts : Count) where
+  -- and so is what a refusal tells: none of them, where the list tells the greatest keys
   pub top_refused : (o : Option (Option Reading)) (e : ToolError)
-      → TalliesRecords room (record { names_columns = names; reading = o }) t
+      → TalliesRecords room (record { names_columns = names; reading = o }) list.tally
       → CountsRecords (record { names_columns = names; reading = o }) ks counts
-      → IsTopFault e
-      → ((xs : List Entry) → AreBounds t xs → counts ≡ count_of counts.keys xs → GreatestRefused xs n max_k e)
-      → TopRefused n (record { names_columns = names; reading = o }) e
-  top_refused None (tool.TopUncertain certain most) made counted kind h = tt
-  top_refused (Some r) (tool.TopUncertain certain most) (xs, read, of, bounds) (ys, again, (weigh, counted)) kind h =
+      → IsTopFault e → (list.tally.lost ≡ 0 → ⊥)
+      → ((xs : List Entry) → AreBounds list.tally xs → counts ≡ count_of counts.keys xs
+      → GreatestRefused xs list.n list.k e)
+      → (stand_out list ≡ true → (xs : List Entry) → AreBounds list.tally xs → counts ≡ count_of counts.keys xs
+      → e ≡ tool.Memory)
+      → ListRefused list (record { names_columns = names; reading = o }) e
+  top_refused None (tool.TopUncertain certain most) made counted kind lossy h sure = λ _ _. tt
+  top_refused (Some r) (tool.TopUncertain certain most) (xs, read, of, bounds) (ys, again, (weigh, counted)) kind lossy h sure =
       let same : ys ≡ xs = cc in
       let own : counts ≡ count_of counts.keys xs = counted ∙ ap (count_of ks) same
       ∙ ap (λ ks. count_of ks xs) (sym (ap (λ (c : Count). c.keys) counted)) in
-      (xs, read, h xs bounds own)
-  top_refused o tool.Memory made counted kind h = tt
-  top_refused o e made counted kind h = absurd kind
+      λ k how. ⊎_elim
+      (λ (tells : TellsTop list). absurd (⊎_elim lossy
+      (λ (out : stand_out list ≡ true). not_memory (sure out xs bounds own)) tells))
+      (λ (is : k ≡ list.k). (xs, read, subst (λ j. IsUncertain xs list.n j certain most) (sym is) (h xs bounds own)))
+      how
+    where
+      not_memory : tool.TopUncertain certain most ≡ tool.Memory → ⊥
+      not_memory clash = absurd (cc (clash))
+  top_refused o tool.Memory made counted kind lossy h sure = λ _ _. tt
+  top_refused o e made counted kind lossy h sure = absurd kind
+
+  -- whatever the call gives
+  pub greatest_refused : {A : Type 0} (r : Result A ToolError) (o : Option (Option Reading))
+      → TalliesRecords room (record { names_columns = names; reading = o }) list.tally
+      → CountsRecords (record { names_columns = names; reading = o }) ks counts
+      → IfErr r IsTopFault → (list.tally.lost ≡ 0 → ⊥)
+      → IfErr r (λ e. (xs : List Entry) → AreBounds list.tally xs → counts ≡ count_of counts.keys xs
+      → GreatestRefused xs list.n list.k e)
+      → (stand_out list ≡ true → IfErr r (λ e. (xs : List Entry) → AreBounds list.tally xs
+      → counts ≡ count_of counts.keys xs → e ≡ tool.Memory))
+      → IfErr r (ListRefused list (record { names_columns = names; reading = o }))
+  greatest_refused (Ok a) o made counted kind lossy h sure = tt
+  greatest_refused (Err e) o made counted kind lossy h sure = top_refused o e made counted kind lossy h sure
 
 -- ---- tallies of records
 module _ (room : Room) (t : TallyView) where
@@ -117,6 +155,6 @@ rows_of_top r n names (Some k) total keys text is (xs, read, sum, are) =
     (xs, read, is ∙ ap (λ (t : ℕ). printed_rows t r keys) sum ∙ ap (printed_rows (total_of xs) r) are)
 
 -- the workers were tested before
-pub behind_workers : (n workers : ℕ) (known : Known) (e : ToolError) → in_range workers max_workers ≡ true
-    → TopRefused n known e → TopFilesRefused n workers known e
-behind_workers n workers known e few h = rw few h
+pub behind_workers : (options : TopOptions) (known : Known) (e : ToolError) → in_range options.workers max_workers ≡ true
+    → TopRefused options.n (counted_in options.memory) known e → TopFilesRefused options known e
+behind_workers options known e few h = rw few h

@@ -1,12 +1,12 @@
 -- The greatest keys of files, which are read more than once, so that of files whose bytes no contract knows nothing is said
 -- of the keys.
-use Rattle.std.specs.Prelude.{◌≡◌, ℕ, ◌/◌, ◌⊎◌, List, Ok}
+use Rattle.std.specs.Prelude.{◌≡◌, ℕ, ◌+◌, ◌-◌, ◌*◌, ◌/◌, ◌⊎◌, true, max, min, List, Ok}
 use Rattle.hh_stream.specs.Ranges.{in_range}
 use Rattle.hh_stream.specs.Weights.{Entry, total_of}
 use Rattle.hh_summaries.specs.Counters.{max_k}
-use Rattle.hh_tally.specs.Tallies.{AreBounds, TallyView, room_for, room_in}
+use Rattle.hh_tally.specs.Tallies.{AreBounds, TallyView, max_keys}
 use Rattle.hh_tally.specs.declared.room.Room.{Room}
-use Rattle.hh_top.specs.Top.{IsUncertain, top}
+use Rattle.hh_top.specs.Top.{IsUncertain, ShortlistView, stand_out, top}
 use Rattle.hh_workers.specs.Workers.{max_workers}
 use Rattle.hh_records.specs.Refusals.{RecordsRefused}
 use Rattle.hh_records.specs.Streams.{Known, ReadsAs}
@@ -22,9 +22,38 @@ use Rattle.hh_faults.specs.declared.error.ToolError.TheVariants as tool
 abbrev pub TalliesRecords : Room → Known → TallyView → Type 0
 TalliesRecords room known t = (xs : List Entry) × ReadsAs known (Ok xs) × (t.room ≡ room) × AreBounds t xs
 
--- room for the most counters of a summary, or for what each worker has of the memory that all share evenly
-abbrev pub IsSharedRoom : TopOptions → Room → Type 0
-IsSharedRoom options room = (room ≡ room_for max_k) ⊎ (room ≡ room_in (options.memory / options.workers))
+-- a shortlist tells the n greatest keys, whatever those weigh that can be among them: nothing was lost, or n counters stand out
+abbrev pub TellsTop : ShortlistView → Type 0
+TellsTop list = (list.tally.lost ≡ 0) ⊎ (stand_out list ≡ true)
+
+-- how many keys are counted at most, where counters have so many bytes of memory, or 256,000: a key in 8,000, but one, and no
+-- more than a summary has counters
+abbrev pub counted_in : ℕ → ℕ
+counted_in memory = min max_k (max 256000 memory / 8000 - 1)
+
+-- the room of a tally in so much memory, where a key takes so many bytes besides its own, and so many keys are the most: a
+-- quarter of all is for the keys' own bytes. Twice as many as are counted, and two more, are kept whatever bytes they have
+abbrev pub room_of : ℕ → ℕ → ℕ → Room
+room_of cost most memory = record {
+  keys = min most (max 256000 memory / cost);
+  few = 2 * (counted_in memory + 1);
+  bytes = max 256000 memory / 4;
+}
+
+-- the room of one worker, where the tallies of several are merged: a tally that is merged may have the keys of two for a
+-- while, so that a key costs twice as much
+abbrev pub shared_room : ℕ → Room
+shared_room memory = room_of 256 (2 * (max_k + 1)) memory
+
+-- the room of the one worker who has all memory
+abbrev pub whole_room : ℕ → Room
+whole_room memory = room_of 128 max_keys memory
+
+-- it tells them by what each worker has of the memory that all share evenly, or it is what one worker tells by all of it
+abbrev pub IsSharedRoom : TopOptions → ShortlistView → Type 0
+IsSharedRoom options list =
+    (TellsTop list × (list.tally.room ≡ shared_room (options.memory / options.workers)))
+    ⊎ ((list.k ≡ counted_in options.memory) × (list.tally.room ≡ whole_room options.memory))
 
 -- where the records' bytes are known, these are their total and their n greatest keys
 abbrev pub FindsTop : ℕ → Known → ℕ → List Entry → Type 0
@@ -36,12 +65,18 @@ abbrev pub PrintsTop : RowOptions → ℕ → Known → List ℕ → Type 0
 PrintsTop r n known rows =
     IfKnown known ((xs : List Entry) × ReadsAs known (Ok xs) × (rows ≡ printed_rows (total_of xs) r (top n xs)))
 
--- what a refusal of the n greatest keys tells: how many of them the most counters leave certain, or of the records
-abbrev pub TopRefused : ℕ → Known → ToolError → Type 0
-TopRefused n known (tool.TopUncertain certain most) =
-    IfKnown known ((xs : List Entry) × ReadsAs known (Ok xs) × IsUncertain xs n max_k certain most)
-TopRefused n known e = RecordsRefused known e
+-- what a refusal of the n greatest keys tells: how many of them are certain where k keys are counted, or of the records
+abbrev pub TopRefused : ℕ → ℕ → Known → ToolError → Type 0
+TopRefused n k known (tool.TopUncertain certain most) =
+    IfKnown known ((xs : List Entry) × ReadsAs known (Ok xs) × IsUncertain xs n k certain most)
+TopRefused n k known e = RecordsRefused known e
 
--- the workers are tested before that
-abbrev pub TopFilesRefused : ℕ → ℕ → Known → ToolError → Type 0
-TopFilesRefused n workers known e = BehindWorkers (in_range workers max_workers) (TopRefused n known) e
+-- what a refusal by a shortlist tells, where it has counted as many keys as it can; where it tells the n greatest keys that
+-- holds for each number of them, so that no such refusal comes of them
+abbrev pub ListRefused : ShortlistView → Known → ToolError → Type 0
+ListRefused list known e = (k : ℕ) → TellsTop list ⊎ (k ≡ list.k) → TopRefused list.n k known e
+
+-- the workers are tested before that; how many keys are counted is decided by the memory alone
+abbrev pub TopFilesRefused : TopOptions → Known → ToolError → Type 0
+TopFilesRefused options known e =
+    BehindWorkers (in_range options.workers max_workers) (TopRefused options.n (counted_in options.memory) known) e

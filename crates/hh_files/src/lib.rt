@@ -7,6 +7,7 @@ mod confirming;
 mod file_passes;
 mod file_pieces;
 mod reporting;
+mod rooms;
 mod summarising;
 mod tabulating;
 mod tallying;

@@ -8,12 +8,13 @@ ghost use Rattle.hh_workers.specs.Workers.{max_workers};
 ghost use Rattle.hh_pieces.specs.Sources.{sources_known};
 ghost use Rattle.hh_records.specs.Refusals.{RecordsRefused};
 ghost use Rattle.hh_commands.specs.Records.{CountsRecords};
-ghost use Rattle.hh_files.specs.TopFiles.{FindsTop, IsSharedRoom, PrintsTop, TalliesRecords};
-ghost use Rattle.hh_files.specs.TopFiles.{TopFilesRefused, TopRefused};
+ghost use Rattle.hh_files.specs.TopFiles.{FindsTop, IsSharedRoom, ListRefused, PrintsTop};
+ghost use Rattle.hh_files.specs.TopFiles.{TalliesRecords, TopFilesRefused, TopRefused, counted_in};
 
 use crate::file_passes::count_sources;
+use crate::rooms::{counted_in, shared_room, whole_room};
 use crate::tallying::tally_of_sources;
-use hh_counters::{Candidates, Counts, Heavy, MAX_K};
+use hh_counters::{Candidates, Counts, Heavy};
 use hh_faults::ToolError;
 use hh_pieces::{ReadAt, SourceRecords};
 use hh_pool::MAX_WORKERS;
@@ -32,37 +33,42 @@ pub struct TopOptions {
     pub n: u64,
     /// The number of workers: 1 to 64.
     pub workers: u64,
-    /// How many bytes of memory the counters of all workers may take where those of 131,072 keys
-    /// each don't tell the greatest.
+    /// How many bytes of memory counters may take, a few more or less: the workers' together, and
+    /// then, where those don't tell the greatest, those of one worker. 256,000 are the least.
     pub memory: u64,
 }
 
-/// The shortlist of a tally of `records` with this `room`.
+/// The shortlist of the `n` greatest keys, of which at most `k` are to be counted, by a tally of
+/// `records` that `workers` make with this `room` each.
 fn shortlist_by<T: Threads + Wait + Sync, S: ReadAt + Sync>(
     rt: &T,
     alloc: Global,
-    options: &TopOptions,
+    n: u64,
+    k: u64,
     room: Room,
+    workers: u64,
     records: SourceRecords<'_, S>,
 ) -> Result<Shortlist, ToolError>
-    requires workers { in_range options.now.workers max_workers ≡ true }
+    requires workers { in_range workers max_workers ≡ true }
     requires room { IsRoom room }
-    requires enough { 2 * (max_k + 1) ≤ room.few }
-    ensures n { IfOk result (λ list. list.n ≡ options.now.n) }
+    requires share { 2 * (k + 1) ≤ room.few }
+    requires most { k ≤ max_k }
+    ensures n { IfOk result (λ list. list.n ≡ n) }
+    ensures k { IfOk result (λ list. list.k ≡ k) }
     ensures room { IfOk result (λ list. list.tally.room ≡ room) }
     ensures tally { IfOk result (λ list. TalliesRecords list.tally.room
         (sources_known S.bytes records.entry) list.tally) }
     ensures still { OnOk result (All S.still records.entry.sources.now) }
     ensures refused { IfErr result (RecordsRefused (sources_known S.bytes records.entry)) }
 {
-    let tally = tally_of_sources(rt, alloc, room, options.workers, records)?;
-    Ok(Shortlist::of(alloc, tally, options.n)?)
+    let tally = tally_of_sources(rt, alloc, room, workers, records)?;
+    Ok(Shortlist::of(alloc, tally, n, k)?)
 }
 
-/// The shortlist of a tally of `records`: one that tells their greatest keys, or the best for which
-/// there is memory. They are tallied with room for the most counters of a summary first. Where that
-/// doesn't do, and there is memory for more, they are tallied again. If two readings have different
-/// totals, the error is [`ToolError::ReadFault`].
+/// The shortlist of a tally of `records`. Workers share the memory evenly first. Where that doesn't
+/// tell the greatest keys, one worker tallies them again with all of it: what is refused then
+/// doesn't depend on who took which piece. If two readings have different totals, the error is
+/// [`ToolError::ReadFault`].
 fn shortlist_of<T: Threads + Wait + Sync, S: ReadAt + Sync>(
     rt: &T,
     alloc: Global,
@@ -71,21 +77,23 @@ fn shortlist_of<T: Threads + Wait + Sync, S: ReadAt + Sync>(
 ) -> Result<Shortlist, ToolError>
     requires workers { in_range options.now.workers max_workers ≡ true }
     ensures n { IfOk result (λ list. list.n ≡ options.now.n) }
-    ensures room { IfOk result (λ list. IsSharedRoom options.now list.tally.room) }
+    ensures room { IfOk result (IsSharedRoom options.now) }
     ensures tally { IfOk result (λ list. TalliesRecords list.tally.room
         (sources_known S.bytes records.entry) list.tally) }
     ensures still { OnOk result (All S.still records.entry.sources.now) }
     ensures refused { IfErr result (RecordsRefused (sources_known S.bytes records.entry)) }
 {
-    let first = Room::for_counters(MAX_K);
-    let room = Room::for_memory(options.memory / options.workers);
-    let list = shortlist_by(rt, alloc, options, first, records)?;
-    if room.keys <= first.keys || list.tally().is_exact() || list.stands_out() {
+    let (n, workers, memory) = (options.n, options.workers, options.memory);
+    let share = memory / workers;
+    let (k, room) = (counted_in(share), shared_room(share));
+    let list = shortlist_by(rt, alloc, n, k, room, workers, records)?;
+    if list.tally().is_exact() || list.stands_out() {
         return Ok(list);
     }
     let total = list.tally().total();
     drop(list);
-    let grown = shortlist_by(rt, alloc, options, room, records)?;
+    let (k, room) = (counted_in(memory), whole_room(memory));
+    let grown = shortlist_by(rt, alloc, n, k, room, 1, records)?;
     if grown.tally().total() != total {
         return Err(ToolError::ReadFault);
     }
@@ -133,7 +141,7 @@ fn top_of_list<T: Threads + Wait + Sync, S: ReadAt + Sync>(
         (sources_known S.bytes records.entry) list.now.tally.total keys.items) }
     ensures still { OnOk result (All S.still records.entry.sources.now) }
     ensures refused { IfErr result
-        (TopRefused list.now.n (sources_known S.bytes records.entry)) }
+        (ListRefused list.now (sources_known S.bytes records.entry)) }
 {
     if list.tally().is_exact() {
         return Ok(list.greatest_counters(alloc)?);
@@ -158,8 +166,8 @@ fn top_of_sources<T: Threads + Wait + Sync, S: ReadAt + Sync>(
     ensures keys { IfOk result (λ keys. FindsTop options.now.n
         (sources_known S.bytes records.entry) keys.0 keys.1.items) }
     ensures still { OnOk result (All S.still records.entry.sources.now) }
-    ensures refused { IfErr result
-        (TopRefused options.now.n (sources_known S.bytes records.entry)) }
+    ensures refused { IfErr result (TopRefused options.now.n (counted_in options.now.memory)
+        (sources_known S.bytes records.entry)) }
 {
     let list = match shortlist_of(rt, alloc, options, records) {
         Ok(list) => list,
@@ -173,18 +181,20 @@ fn top_of_sources<T: Threads + Wait + Sync, S: ReadAt + Sync>(
 
 /// The greatest keys of files of any size, as many as the options say, or of other bytes that are
 /// read at any place, with their weights, by falling weight and then by rising key; all keys where
-/// they are fewer. Workers read the files in pieces, through a buffer each: once where each tallies
-/// at most 131,072 keys, whose counters then are the weights, and else once more, to count the keys
-/// that can be among the greatest, as far as the counters tell. Where these don't tell, the files
-/// are tallied anew before that, with counters for as many keys as have room in the options'
-/// memory, shared among the workers. Nothing of a file is kept. Where a piece can't be read by
-/// itself, one thread reads all files from their starts, so that the first refusal has its number.
+/// they are fewer. Workers read the files in pieces, through a buffer each: once where there are
+/// counters for all keys, which then are the weights, and else once more, to count the keys that
+/// can be among the greatest, as far as the counters tell. The workers share the options' memory
+/// evenly for that, and a worker has at most 131,072 counters. Where these don't tell, one worker
+/// tallies the files anew before that, with all of the memory, so that the number of workers
+/// decides nothing. Nothing of a file is kept. Where a piece can't be read by itself, one thread
+/// reads all files from their starts, so that the first refusal has its number.
 ///
 /// The workers are tested first, of whom there are 1 to 64 ([`ToolError::BadWorkers`]), and then
 /// come the records ([`ToolError::ReadFault`], [`ToolError::NoColumn`],
 /// [`ToolError::BadRecord`]). Where fewer keys than are wanted weigh more than a key that wasn't
 /// counted can, the error is [`ToolError::TopUncertain`]: with how many do, and with what such a
-/// key can weigh, which is at most the total divided by 65,536.
+/// key can weigh. That is at most the total divided by 65,536, and where the memory is less than
+/// 65,536 times 8,000 bytes, divided by an eight-thousandth of its bytes.
 ///
 /// Where the bytes of all files are known, the rows are those of their records, one file after the
 /// other. Where a file was changed while it was read, the error is [`ToolError::ReadFault`]; one
@@ -199,8 +209,8 @@ pub fn top_files<T: Threads + Wait + Sync, S: ReadAt + Sync>(
     ensures rows { IfOk result (λ text. PrintsTop rows.now options.now.n
         (sources_known S.bytes records.entry) text.items) }
     ensures still { OnOk result (All S.still records.entry.sources.now) }
-    ensures refused { IfErr result (TopFilesRefused options.now.n options.now.workers
-        (sources_known S.bytes records.entry)) }
+    ensures refused { IfErr result
+        (TopFilesRefused options.now (sources_known S.bytes records.entry)) }
 {
     if !in_range(options.workers, MAX_WORKERS) {
         return Err(ToolError::BadWorkers);

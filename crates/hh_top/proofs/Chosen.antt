@@ -9,7 +9,7 @@ use Rattle.std.proofs.lemmas.Bool.Decides.{nat_tests}
 use Rattle.std.proofs.lemmas.List.Sums.{length-filter}
 use Rattle.std.proofs.lemmas.List.Elements.{All-contains, All-contains_itself, All-map, All-weaker}
 use Rattle.hh_stream.specs.Weights.{Bytes, Entry, key_cmp, same_key, total_of, weight_of}
-use Rattle.hh_summaries.specs.Counters.{Counters, add_at, exceeds, level, max_k, over, tally}
+use Rattle.hh_summaries.specs.Counters.{Counters, add_at, exceeds, level, over, tally}
 use Rattle.hh_summaries.specs.Report.{by_rank, rank_cmp, ranked_in, weights_at}
 use Rattle.hh_summaries.proofs.Level.{is_level, over-cons}
 use Rattle.hh_summaries.proofs.Summaries.{total_of-cut}
@@ -17,7 +17,7 @@ use Rattle.hh_summaries.proofs.Weights.{Distinct, by_add_at, in_from_number, num
 use Rattle.hh_summaries.proofs.Reports.{candidates, candidates_in, filter_in, keys_of-candidates, rising-filter, same_ranked, zip-weights_at}
 use Rattle.hh_counters.specs.Counting.{Count, count_of}
 use Rattle.hh_tally.specs.Tallies.{AreBounds, IsLoss, TallyView}
-use Rattle.hh_top.specs.Top.{IsUncertain, chosen_of, floor_of, most_uncounted, nth_counter, rows_over, stand_out, top}
+use Rattle.hh_top.specs.Top.{IsUncertain, ShortlistView, chosen_of, floor_of, most_uncounted, nth_counter, rows_over, stand_out, top}
 use Rattle.hh_top.proofs.Ranking.{first_rows, over_is_exact}
 
 -- ---- how many rows there are
@@ -177,10 +177,13 @@ module _ (t : TallyView) (xs : List Entry) (bounds : AreBounds t xs) (f : ℕ) (
   )
 
 -- where n counters stand out, as many keys weigh more than the floor
-pub stand_out_enough : (n : ℕ) (t : TallyView) (xs : List Entry) → AreBounds t xs
-    → most_uncounted t < nth_counter n t → n ≤ length (rows_over (floor_of n t) (tally xs))
-stand_out_enough n t xs bounds out =
-    let f = floor_of n t in
+pub stand_out_enough : (list : ShortlistView) (xs : List Entry) → AreBounds list.tally xs
+    → most_uncounted list.k list.tally < nth_counter list.n list.tally
+    → list.n ≤ length (rows_over (floor_of list) (tally xs))
+stand_out_enough list xs bounds out =
+    let n = list.n in
+    let t = list.tally in
+    let f = floor_of list in
     let at : f ≡ nth_counter n t - 1 = omega (arith, out) in
     let enough = rows_enough t xs bounds f (omega (arith, at, out)) in
     ⊎_elim
@@ -189,37 +192,51 @@ stand_out_enough n t xs bounds out =
     (λ (le : n ≤ length (rows_over f (tally xs))). le)
     (cases_lt (length (rows_over f (tally xs))) n)
 
--- what can't be counted is at most what max_k counters leave open
-pub uncounted_is_little : (t : TallyView) → 2 * (max_k + 1) ≤ t.room.few → IsLoss t.room.few t.total t.lost t.counters
-    → (max_k + 1) * most_uncounted t ≤ t.total
-uncounted_is_little t share loss =
-    let u = level t.counters max_k in
-    let half : max_k + 1 ≤ t.room.few / 2 = omega (arith, share) in
+-- what can't be counted is at most what k counters leave open
+pub uncounted_is_little : (k : ℕ) (t : TallyView) → 2 * (k + 1) ≤ t.room.few → IsLoss t.room.few t.total t.lost t.counters
+    → (k + 1) * most_uncounted k t ≤ t.total
+uncounted_is_little k t share loss =
+    let u = level t.counters k in
+    let half : k + 1 ≤ t.room.few / 2 = omega (arith, share) in
     omega (
       arith,
-      mul-add (max_k + 1) t.lost u,
+      mul-add (k + 1) t.lost u,
       mul-le-mul_right t.lost half,
-      total_of-cut t.counters max_k u (is_level t.counters max_k),
+      total_of-cut t.counters k u (is_level t.counters k),
       loss,
     )
 
+-- and so no more than the total
+pub uncounted_fits : (k : ℕ) (t : TallyView) → 2 * (k + 1) ≤ t.room.few → IsLoss t.room.few t.total t.lost t.counters
+    → most_uncounted k t ≤ t.total
+uncounted_fits k t share loss =
+    let one : 1 ≤ k + 1 = omega arith in
+    omega (arith, uncounted_is_little k t share loss, mul-le-mul_right (most_uncounted k t) one)
+
 -- where fewer than n keys weigh more than the floor, that is
-pub floor_is_little : (n : ℕ) (t : TallyView) (xs : List Entry) → AreBounds t xs → 2 * (max_k + 1) ≤ t.room.few
-    → IsLoss t.room.few t.total t.lost t.counters → length (rows_over (floor_of n t) (tally xs)) < n
-    → (max_k + 1) * floor_of n t ≤ total_of xs
-floor_is_little n t xs bounds share loss few = ⊎_elim
-    (λ (out : most_uncounted t < nth_counter n t). absurd (omega (arith, stand_out_enough n t xs bounds out, few)))
-    (λ (le : nth_counter n t ≤ most_uncounted t).
-    let at : floor_of n t ≡ most_uncounted t = omega (arith, le) in
-    rw at (omega (arith, uncounted_is_little t share loss, bounds.counted)))
-    (cases_lt (most_uncounted t) (nth_counter n t))
+pub floor_is_little : (list : ShortlistView) (xs : List Entry) → AreBounds list.tally xs
+    → 2 * (list.k + 1) ≤ list.tally.room.few
+    → IsLoss list.tally.room.few list.tally.total list.tally.lost list.tally.counters
+    → length (rows_over (floor_of list) (tally xs)) < list.n → (list.k + 1) * floor_of list ≤ total_of xs
+floor_is_little list xs bounds share loss few =
+    let n = list.n in
+    let k = list.k in
+    let t = list.tally in
+    ⊎_elim
+    (λ (out : most_uncounted k t < nth_counter n t). absurd (omega (arith, stand_out_enough list xs bounds out, few)))
+    (λ (le : nth_counter n t ≤ most_uncounted k t).
+    let at : floor_of list ≡ most_uncounted k t = omega (arith, le) in
+    rw at (omega (arith, uncounted_is_little k t share loss, bounds.counted)))
+    (cases_lt (most_uncounted k t) (nth_counter n t))
 
 -- ---- what is chosen of a count
-module _ (n f : ℕ) (t : TallyView) (is : f ≡ floor_of n t) (counts : Count) (keys : counts.keys ≡ keys_of (chosen_of n t))
-    (rows : List Entry) (chosen : rows ≡ rows_over f (zip counts.keys counts.weights)) (xs : List Entry)
-    (bounds : AreBounds t xs) (counted : counts ≡ count_of counts.keys xs) where
+module _ (list : ShortlistView) (f : ℕ) (is : f ≡ floor_of list) (counts : Count)
+    (keys : counts.keys ≡ keys_of (chosen_of list)) (rows : List Entry)
+    (chosen : rows ≡ rows_over f (zip counts.keys counts.weights)) (xs : List Entry)
+    (bounds : AreBounds list.tally xs) (counted : counts ≡ count_of counts.keys xs) where
   rows_are_over : rows ≡ rows_over f (tally xs)
   rows_are_over =
+      let t = list.tally in
       let weights : counts.weights ≡ weights_at counts.keys xs = ap (λ (c : Count). c.weights) counted in
       let some = keys_of (filter (exceeds (f - t.lost)) (tally t.counters)) in
       let same : counts.keys ≡ some = keys ∙ ap (λ f. keys_of (filter (exceeds (f - t.lost)) (tally t.counters))) (sym is) in
@@ -227,23 +244,24 @@ module _ (n f : ℕ) (t : TallyView) (is : f ≡ floor_of n t) (counts : Count) 
       ∙ ap (λ ks. rows_over f (zip ks (weights_at ks xs))) same ∙ rows_counted t xs bounds f (omega (arith, is))
 
   -- the first n of the rows, where they are as many or nothing weighs less, are the n greatest keys
-  pub are_top : (n ≤ length rows) ⊎ (f ≡ 0) → (first : List Entry) → first ≡ take n rows → first ≡ top n xs
-  are_top enough first is = is ∙ first_rows xs n f rows rows_are_over enough
+  pub are_top : (list.n ≤ length rows) ⊎ (f ≡ 0) → (first : List Entry) → first ≡ take list.n rows → first ≡ top list.n xs
+  are_top enough first is = is ∙ first_rows xs list.n f rows rows_are_over enough
 
   -- where they are fewer, they are certain, and no others
-  pub are_uncertain : 2 * (max_k + 1) ≤ t.room.few → IsLoss t.room.few t.total t.lost t.counters → 0 < f → length rows < n
-      → IsUncertain xs n max_k (length rows) f
+  pub are_uncertain : 2 * (list.k + 1) ≤ list.tally.room.few
+      → IsLoss list.tally.room.few list.tally.total list.tally.lost list.tally.counters → 0 < f → length rows < list.n
+      → IsUncertain xs list.n list.k (length rows) f
   are_uncertain share loss some few = record {
     few = few;
     some = some;
     counted = ap length rows_are_over;
-    little = rw is (floor_is_little n t xs bounds share loss (rw (← is) (omega (arith, few, ap length rows_are_over))));
+    little = rw is (floor_is_little list xs bounds share loss (rw (← is) (omega (arith, few, ap length rows_are_over))));
   }
 
   -- which can't be where they stand out
-  pub are_enough : stand_out n t ≡ true → length rows < n → ⊥
+  pub are_enough : stand_out list ≡ true → length rows < list.n → ⊥
   are_enough out few =
-      let enough = stand_out_enough n t xs bounds (grind (arith, nat_tests, out)) in
+      let enough = stand_out_enough list xs bounds (grind (arith, nat_tests, out)) in
       let at = ap (λ f. length (rows_over f (tally xs))) is in
       omega (arith, few, ap length rows_are_over, at, enough)
 
@@ -265,14 +283,14 @@ exact_top n f t xs bounds none is rows first are firsts =
     (λ (le : n ≤ length rows). inl le) (cases_lt (length rows) n) in
     firsts ∙ first_rows xs n f rows (are ∙ alike) enough
 
--- the counters above a floor that is no lower are at most max_k
-pub chosen_few : (d : ℕ) (t : TallyView) (c : Counters) → level t.counters max_k ≤ d → length c ≡ over t.counters d
-    → length c ≤ max_k
-chosen_few d t c least count = omega (
+-- the counters above a floor that is no lower are at most as many as are counted
+pub chosen_few : (k d : ℕ) (t : TallyView) (c : Counters) → level t.counters k ≤ d → length c ≡ over t.counters d
+    → length c ≤ k
+chosen_few k d t c least count = omega (
   arith,
   count,
-  over-falls (level t.counters max_k) d t.counters least,
-  (is_level t.counters max_k).at_most,
+  over-falls (level t.counters k) d t.counters least,
+  (is_level t.counters k).at_most,
 )
 
 -- ---- rows of a count

@@ -3,7 +3,7 @@ use Rattle.std.specs.Prelude.{◌≡◌, ℕ, ◌+◌, ◌-◌, ◌*◌, ◌<◌
 use Rattle.std.specs.List.Sorted.{IsStrictlySortedBy}
 use Rattle.std.specs.Ordering.{is_lt}
 use Rattle.hh_stream.specs.Weights.{Bytes, Entry, total_of, weight_of}
-use Rattle.hh_summaries.specs.Counters.{Counters, exceeds, level, max_k, tally}
+use Rattle.hh_summaries.specs.Counters.{Counters, exceeds, level, tally}
 use Rattle.hh_summaries.specs.Report.{by_rank, rank_cmp}
 use Rattle.hh_tally.specs.Tallies.{TallyView}
 use Rattle.hh_faults.specs.declared.error.ToolError.{ToolError}
@@ -30,31 +30,33 @@ pub record IsTop (xs : List Entry) (n : ℕ) (es : List Entry) : Type 0 where
   pub few : length es ≤ n
   pub all : length es < n → (x : Bytes) → 0 < weight_of x xs → Contains es (x, weight_of x xs)
 
--- what a contract sees of a shortlist: how many of the greatest keys are looked for, and the tally that tells of them
+-- what a contract sees of a shortlist: how many of the greatest keys are looked for, how many are counted at most, and the
+-- tally that tells of them
 pub record ShortlistView : Type 0 where
   pub n : ℕ
+  pub k : ℕ
   pub tally : TallyView
 
 -- the n-th greatest counter of a tally, and 0 where it has fewer
 abbrev pub nth_counter : ℕ → TallyView → ℕ
 nth_counter n t = level t.counters (n - 1)
 
--- the most that a key can weigh that isn't counted, where max_k keys are: it has no counter, or one of the others
-abbrev pub most_uncounted : TallyView → ℕ
-most_uncounted t = t.lost + level t.counters max_k
+-- the most that a key can weigh that isn't counted, where k keys are: it has no counter, or one of the others
+abbrev pub most_uncounted : ℕ → TallyView → ℕ
+most_uncounted k t = t.lost + level t.counters k
 
 -- whether n counters are above that, so that the n greatest keys are among those that are counted
-abbrev pub stand_out : ℕ → TallyView → Bool
-stand_out n t = nat_lt (most_uncounted t) (nth_counter n t)
+abbrev pub stand_out : ShortlistView → Bool
+stand_out list = nat_lt (most_uncounted list.k list.tally) (nth_counter list.n list.tally)
 
 -- a weight from which on the n greatest keys are looked for, less one: what a key can weigh that isn't counted, or less
 -- than the n-th greatest counter
-abbrev pub floor_of : ℕ → TallyView → ℕ
-floor_of n t = max (most_uncounted t) (nth_counter n t - 1)
+abbrev pub floor_of : ShortlistView → ℕ
+floor_of list = max (most_uncounted list.k list.tally) (nth_counter list.n list.tally - 1)
 
--- the counters of the keys that can weigh more than that, at most max_k of them, by rising key
-abbrev pub chosen_of : ℕ → TallyView → Counters
-chosen_of n t = filter (exceeds (floor_of n t - t.lost)) (tally t.counters)
+-- the counters of the keys that can weigh more than that, at most k of them, by rising key
+abbrev pub chosen_of : ShortlistView → Counters
+chosen_of list = filter (exceeds (floor_of list - list.tally.lost)) (tally list.tally.counters)
 
 -- of the n greatest keys only the first are certain, fewer than n: just these weigh more than `most`, which is more than 0
 -- and at most what k counters leave open
@@ -64,7 +66,7 @@ pub record IsUncertain (xs : List Entry) (n k certain most : ℕ) : Type 0 where
   pub counted : certain ≡ length (rows_over most (tally xs))
   pub little : (k + 1) * most ≤ total_of xs
 
--- what a refusal of the n greatest keys tells, where k counters were kept
+-- what a refusal of the n greatest keys tells, where at most k keys were counted
 abbrev pub GreatestRefused : List Entry → ℕ → ℕ → ToolError → Type 0
 GreatestRefused xs n k (tool.TopUncertain certain most) = IsUncertain xs n k certain most
 GreatestRefused xs n k tool.Memory = ⊤

@@ -12,23 +12,25 @@ ghost use Rattle.hh_top.specs.Top.{GreatestRefused, IsTopFault, chosen_of, floor
 ghost use Rattle.hh_top.specs.Top.{rows_over, stand_out, top};
 ghost use Rattle.hh_faults.specs.declared.error.ToolError.TheVariants.{Memory};
 
-use hh_counters::{Candidates, Counts, Heavy, MAX_K};
+use hh_counters::{Candidates, Counts, Heavy};
 use hh_faults::ToolError;
 use hh_stream::{Key, KeyHash, TakeItems};
 use hh_tally::Tally;
 use std::alloc::{AllocError, Global};
 use std::marker::Model;
 
-/// A tally, with what its counters tell of the `n` greatest keys: which keys can be among them.
+/// A tally, with what its counters tell of the `n` greatest keys: which keys can be among them, of
+/// which at most `k` are counted.
 ///
-/// A contract sees `n` and the tally.
+/// A contract sees `n`, `k` and the tally.
 #[derive(Debug, Drop)]
 pub struct Shortlist {
     n: u64,
+    k: u64,
     tally: Tally,
     // The n-th greatest counter, and 0 where there are fewer.
     counter: u64,
-    // The most that a key can weigh that isn't counted, where `MAX_K` keys are.
+    // The most that a key can weigh that isn't counted, where `k` keys are.
     most: u64,
 }
 
@@ -39,27 +41,29 @@ impl Model for Shortlist {
 
     ghost Value = { ShortlistView };
 
-    ghost view = { λ list. record { n = list.n; tally = list.tally } };
+    ghost view = { λ list. record { n = list.n; k = list.k; tally = list.tally } };
 
-    ghost invariant = { λ list. (2 * (max_k + 1) ≤ list.tally.room.few)
+    ghost invariant = { λ list. (2 * (list.k + 1) ≤ list.tally.room.few) × (list.k ≤ max_k)
         × (list.counter ≡ nth_counter list.n list.tally)
-        × (list.most ≡ most_uncounted list.tally) };
+        × (list.most ≡ most_uncounted list.k list.tally) };
 }
 
 impl Shortlist {
-    /// Looks through the counters of a tally for the `n` greatest keys. The tally has room for the
-    /// most counters of a summary.
-    pub fn of(alloc: Global, tally: Tally, n: u64) -> Result<Shortlist, AllocError>
-        requires share { 2 * (max_k + 1) ≤ tally.room.few }
-        ensures { IfOk result (λ list. list ≡ record { n = n; tally = tally }) }
+    /// Looks through the counters of a tally for the `n` greatest keys, of which at most `k` are to
+    /// be counted. The tally has room for a summary with `k` counters.
+    pub fn of(alloc: Global, tally: Tally, n: u64, k: u64) -> Result<Shortlist, AllocError>
+        requires share { 2 * (k + 1) ≤ tally.room.few }
+        requires most { k ≤ max_k }
+        ensures { IfOk result (λ list. list ≡ record { n = n; k = k; tally = tally }) }
     {
         // They bound what was lost and the counters.
         let _total = tally.total();
         let counter = tally.level(alloc, n.saturating_sub(1) as usize)?;
-        let other = tally.level(alloc, MAX_K as usize)?;
+        let other = tally.level(alloc, k as usize)?;
         let most = tally.lost() + other;
         Ok(Shortlist {
             n,
+            k,
             tally,
             counter,
             most,
@@ -69,7 +73,7 @@ impl Shortlist {
     /// The tally.
     pub fn tally(&self) -> &Tally
         ensures tally { result.now ≡ self.now.tally }
-        ensures share { 2 * (max_k + 1) ≤ self.now.tally.room.few }
+        ensures share { 2 * (self.now.k + 1) ≤ self.now.tally.room.few }
     {
         &self.tally
     }
@@ -77,7 +81,7 @@ impl Shortlist {
     /// Whether the `n` greatest keys are among those that [`choice`](Shortlist::choice) gives to be
     /// counted, whatever these then weigh: `n` counters are above what any other key can weigh.
     pub fn stands_out(&self) -> bool
-        ensures { result ≡ stand_out self.now.n self.now.tally }
+        ensures { result ≡ stand_out self.now }
     {
         self.counter > self.most
     }
@@ -85,18 +89,17 @@ impl Shortlist {
     /// A weight that the `n` greatest keys exceed, as far as counters tell: what a key can weigh
     /// that isn't counted, or one less than the n-th greatest counter.
     fn floor(&self) -> u64
-        ensures { result ≡ floor_of self.now.n self.now.tally }
+        ensures { result ≡ floor_of self.now }
     {
         self.most.max(self.counter.saturating_sub(1))
     }
 
     /// The keys to count for the `n` greatest, hashed by `hash`: those of the tally that can weigh
-    /// more than what a key without a counter can, and no less than the n-th greatest counter. They
-    /// are at most [`MAX_K`].
+    /// more than what a key without a counter can, and no less than the n-th greatest counter.
     pub fn choice(&self, alloc: Global, hash: KeyHash) -> Result<Candidates, AllocError>
-        ensures keys { IfOk result
-            (λ choice. choice ≡ keys_of (chosen_of self.now.n self.now.tally)) }
-        ensures few { IfOk result (λ choice. length choice ≤ max_k) }
+        ensures keys { IfOk result (λ choice. choice ≡ keys_of (chosen_of self.now)) }
+        ensures few { IfOk result (λ choice. length choice ≤ self.now.k) }
+        ensures most { self.now.k ≤ max_k }
     {
         let floor = self.floor();
         let entries = self
@@ -112,13 +115,13 @@ impl Shortlist {
     /// no such key weighs anything. Else the refusal has how many keys weigh more than that, and
     /// that weight. Where the list [`stands_out`](Shortlist::stands_out) they are never refused.
     pub fn greatest(&self, alloc: Global, counts: &Counts) -> Result<Vec<Heavy>, ToolError>
-        requires keys { counts.now.keys ≡ keys_of (chosen_of self.now.n self.now.tally) }
+        requires keys { counts.now.keys ≡ keys_of (chosen_of self.now) }
         ensures rows { IfOk result (λ rows. (xs : List Entry) → AreBounds self.now.tally xs
             → counts.now ≡ count_of counts.now.keys xs → rows.items ≡ top self.now.n xs) }
         ensures refused { IfErr result (λ fault. (xs : List Entry) → AreBounds self.now.tally xs
             → counts.now ≡ count_of counts.now.keys xs
-            → GreatestRefused xs self.now.n max_k fault) }
-        ensures sure { stand_out self.now.n self.now.tally ≡ true
+            → GreatestRefused xs self.now.n self.now.k fault) }
+        ensures sure { stand_out self.now ≡ true
             → IfErr result (λ fault. (xs : List Entry) → AreBounds self.now.tally xs
             → counts.now ≡ count_of counts.now.keys xs → fault ≡ Memory) }
         ensures kind { IfErr result IsTopFault }

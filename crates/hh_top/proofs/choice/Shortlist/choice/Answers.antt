@@ -18,11 +18,13 @@ of_entries-requires c =
 pub returns-clause-few : goal.returns-clause-few
 returns-clause-few c =
     let t = c.self.inside.tally in
+    let k = c.self.inside.k in
     let d = c.saturating_sub.result in
     let es = c.in_ok-entries.entries.items in
-    let floor = subst (λ (v : ShortlistView). c.floor-floor.result ≡ floor_of v.n v.tally) (sym c.self.view_is)
+    let floor = subst (λ (v : ShortlistView). c.floor-floor.result ≡ floor_of v) (sym c.self.view_is)
     c.floor-floor.ensures in
-    let few = chosen_few d t es (omega (arith, c.saturating_sub.ensures, floor, c.lost.ensures.lost))
+    let same = ap (λ (v : ShortlistView). v.k) c.self.view_is in
+    let few = chosen_few k d t es (omega (arith, c.saturating_sub.ensures, floor, c.lost.ensures.lost))
     c.in_ok-entries.ensures.count in
     MatchResult-weaker c.of_entries.result c.of_entries.ensures
-    (λ choice is. omega (arith, ap length (rw c.deref.ensures.value at is), length-keys_of es, few)) (λ _ h. h)
+    (λ choice is. omega (arith, ap length (rw c.deref.ensures.value at is), length-keys_of es, few, same)) (λ _ h. h)

@@ -1,5 +1,5 @@
 use Rattle.std.proofs.Common.{◌+◌, ◌-◌, ◌*◌, ◌≤◌, ◌⊎◌, ◌≡◌, ◌∙◌, ap, inl, inr, length, subst, take, arith}
-use Rattle.hh_summaries.specs.Counters.{exceeds, max_k, tally}
+use Rattle.hh_summaries.specs.Counters.{exceeds, tally}
 use Rattle.hh_summaries.proofs.Reports.{rising-filter}
 use Rattle.hh_summaries.proofs.Weights.{rising-tally}
 use Rattle.hh_tally.specs.Tallies.{IsLoss}
@@ -10,29 +10,26 @@ use Rattle.hh_top.proofs.choice.Shortlist.greatest.Goals.{else-floor-gt0-via-the
 
 pub rows_over-requires : goal.rows_over-requires
 rows_over-requires c =
-    let n = c.args.self.now.n in
     let t = c.args.self.now.tally in
-    rw c.requires.keys (rising-filter (exceeds (floor_of n t - t.lost)) (tally t.counters) (rising-tally t.counters))
+    rw c.requires.keys (rising-filter (exceeds (floor_of c.args.self.now - t.lost)) (tally t.counters) (rising-tally t.counters))
 
 pub returns-then-len-self-clause-refused : goal.returns-then-len-self-clause-refused
 returns-then-len-self-clause-refused c = λ xs bounds counted.
-    let n = c.args.self.now.n in
-    let t = c.args.self.now.tally in
+    let list = c.args.self.now in
     let f = c.floor-floor.result in
-    let same : c.self.inside.n ≡ n = ap (λ (v : ShortlistView). v.n) c.self.view_is in
-    let share = subst (λ (v : ShortlistView). 2 * (max_k + 1) ≤ v.tally.room.few) c.self.view_is c.self.invariant.0 in
+    let same : c.self.inside.n ≡ list.n = ap (λ (v : ShortlistView). v.n) c.self.view_is in
+    let share = subst (λ (v : ShortlistView). 2 * (v.k + 1) ≤ v.tally.room.few) c.self.view_is c.self.invariant.0 in
     let loss = subst (λ (v : ShortlistView). IsLoss v.tally.room.few v.tally.total v.tally.lost v.tally.counters)
     c.self.view_is c.lost-lost.ensures.loss in
-    subst (λ certain. IsUncertain xs n max_k certain f) (omega (arith, c.len-then-len-self.ensures))
-    (are_uncertain n f t c.floor-floor.ensures c.args.counts.now c.requires.keys c.in_ok-rows.rows.items
+    subst (λ certain. IsUncertain xs list.n list.k certain f) (omega (arith, c.len-then-len-self.ensures))
+    (are_uncertain list f c.floor-floor.ensures c.args.counts.now c.requires.keys c.in_ok-rows.rows.items
     c.in_ok-rows.ensures xs bounds counted share loss (omega (arith, c.if-floor-gt0.true))
     (omega (arith, c.if-len-self.true, c.len.ensures, same)))
 
 pub returns-then-len-self-clause-sure : goal.returns-then-len-self-clause-sure
 returns-then-len-self-clause-sure c = λ out xs bounds counted.
-    let n = c.args.self.now.n in
-    let same : c.self.inside.n ≡ n = ap (λ (v : ShortlistView). v.n) c.self.view_is in
-    absurd (are_enough n c.floor-floor.result c.args.self.now.tally c.floor-floor.ensures c.args.counts.now
+    let same : c.self.inside.n ≡ c.args.self.now.n = ap (λ (v : ShortlistView). v.n) c.self.view_is in
+    absurd (are_enough c.args.self.now c.floor-floor.result c.floor-floor.ensures c.args.counts.now
     c.requires.keys c.in_ok-rows.rows.items c.in_ok-rows.ensures xs bounds counted out
     (omega (arith, c.if-len-self.true, c.len.ensures, same)))
 
@@ -45,5 +42,5 @@ returns-clause-rows c = λ xs bounds counted.
       | else-floor-gt0-via-then-floor-gt0+else-len-self w ↦ inl (omega (arith, w.if-len-self.false, w.len.ensures, same))
       | else-floor-gt0-via-else-floor-gt0 w ↦ inr (omega (arith, w.if-floor-gt0.false))
     ] in
-    are_top n c.floor-floor.result c.args.self.now.tally c.floor-floor.ensures c.args.counts.now c.requires.keys rows
+    are_top c.args.self.now c.floor-floor.result c.floor-floor.ensures c.args.counts.now c.requires.keys rows
     c.in_ok-rows.ensures xs bounds counted enough _ (c.first_of.ensures ∙ ap (λ m. take m rows) same)

@@ -23,5 +23,5 @@ returns c = λ xs bounds none.
     let theirs = subst (λ (v : ShortlistView). AreBounds v.tally xs) (sym c.self.view_is) bounds in
     let nothing = ap (λ (v : ShortlistView). v.tally.lost) c.self.view_is ∙ none in
     exact_top c.self.inside.n c.saturating_sub.result c.self.inside.tally xs theirs nothing
-    (omega (arith, c.saturating_sub.ensures, c.self.invariant.1)) _ _ (c.rank.ensures ∙ ap by_rank are) c.first_of.ensures
+    (omega (arith, c.saturating_sub.ensures, c.self.invariant.2)) _ _ (c.rank.ensures ∙ ap by_rank are) c.first_of.ensures
     ∙ ap (λ (v : ShortlistView). top v.n xs) c.self.view_is
