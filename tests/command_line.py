@@ -1219,6 +1219,8 @@ class CommandLine(programs.Checks):
             (["ask", "--key", "1", "one", "a"], other % "--key"), (["merge", "--progress", "one"], other % "--progress"),
             (["ask", "--progress", "one", "a"], other % "--progress"),
             (["report", "--k"], "a value is required for '--k <N>' but none was supplied"),
+            *((words, "a value is required for '--bad-as <KEY>' but none was supplied") for words in [
+                ["report", "--bad-as", ""], ["top", "--bad-as=", "1"], ["confirm", "--bad-as", "", "day"]]),
             (["report", "--k", "x"], "invalid value 'x' for '--k <N>'"),
             (["report", "--k", str(2**64)], f"invalid value '{2**64}' for '--k <N>'"),
             (["report", "--top", "x"], "invalid value 'x' for '--top <N>'"), (["table", "--share"], other % "--share"),

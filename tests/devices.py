@@ -196,6 +196,12 @@ class Devices(programs.Checks):
             wanted = (3, b"", b"heavy: record 2: zero weight\n")
             self.check(f"{command[0]} of a bad record into a full device", found == wanted, found)
 
+    def test_limit_on_files(self) -> None:
+        """A write beyond a limit on the size of files ends the program by a signal, and where that is ignored is a fault."""
+        for before, status in (("", -signal.SIGXFSZ), ("trap '' XFSZ; ", 1)):
+            ended = programs.run(["sh", "-c", f'{before}ulimit -f 0; exec "$@"', "", self.program, *REPORT], RECORDS)
+            self.check(f"a limit on files, {before}", (ended.status, ended.out) == (status, b""), ended)
+
     def test_unread_files(self) -> None:
         """A damaged saved file and one that can't be read: the latter is told, since all are read before the first is judged."""
         wrong, none = f"{self.room}/wrong", f"{self.room}/none"

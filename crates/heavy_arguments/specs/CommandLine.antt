@@ -6,7 +6,7 @@ use Rattle.clap.specs.Lexer.{usize_max}
 use Rattle.clap.specs.Walk.{Rule, Text}
 use Rattle.clap.specs.Simple.{App, Shape, new_rule, new_shape, on_top, with_subcommand}
 use Rattle.clap.specs.declared.builder.action.ArgAction.TheVariants.{Append, SetTrue}
-use Rattle.clap.specs.declared.builder.value_parser.ValueParser.TheVariants.{Names, Signed, Unsigned}
+use Rattle.clap.specs.declared.builder.value_parser.ValueParser.TheVariants.{Names, NonEmptyString, Signed, Unsigned}
 use Rattle.heavy_arguments.specs.declared.options.Argument.{Argument}
 use Rattle.heavy_arguments.specs.declared.options.Argument.TheVariants as argument
 use Rattle.heavy_arguments.specs.declared.options.Kind.{Kind}
@@ -31,6 +31,10 @@ number name = record (option name) { parser = Some (Unsigned 0 18446744073709551
 -- the same, from 0 to 9
 abbrev pub digit : Text → Rule
 digit name = record (option name) { parser = Some (Signed (pos 0) (pos 9)) }
+
+-- the same, of which the value has a character or more
+abbrev pub filled : Text → Rule
+filled name = record (option name) { parser = Some NonEmptyString }
 
 -- the same, of which the value is one of these words
 abbrev pub one_of : Words → Text → Rule
@@ -68,6 +72,7 @@ abbrev pub rule_of_kind : Words → Kind → Text → Rule
 rule_of_kind forms kind.Number name = number name
 rule_of_kind forms kind.Digit name = digit name
 rule_of_kind forms (kind.Text value) name = option name
+rule_of_kind forms (kind.Filled value) name = filled name
 rule_of_kind forms kind.Byte name = option name
 rule_of_kind forms kind.Columns name = options name
 rule_of_kind forms kind.Share name = option name
@@ -127,7 +132,7 @@ reading = flag (codes "explain") ∷ flag (codes "progress") ∷ []
 -- how records are read; `-d` and `-H` are letters of two
 abbrev pub columns : List Rule
 columns = with_letter 100 (option (codes "delimiter")) ∷ with_letter 72 (flag (codes "header")) ∷ options (codes "key")
-    ∷ option (codes "weight") ∷ flag (codes "allow-zero") ∷ option (codes "bad-as") ∷ digit (codes "decimals")
+    ∷ option (codes "weight") ∷ flag (codes "allow-zero") ∷ filled (codes "bad-as") ∷ digit (codes "decimals")
     ∷ option (codes "until") ∷ number (codes "prefix") ∷ flag (codes "no-quotes") ∷ flag (codes "squeeze")
     ∷ flag (codes "lines") ∷ flag (codes "json") ∷ []
 

@@ -257,7 +257,7 @@ const SAVED_SUMMARY: Argument = Argument::Given(Kind::Word, "FILE", "A saved sum
 const RECORD_FILES: Argument = Argument::Given(
     Kind::Files,
     RECORDS,
-    "Files of records, read one after the other; - is standard input [default: -]",
+    "Files of records, read one after the other; - is standard input, once [default: -]",
 );
 
 /// The options that say how records are read.
@@ -277,7 +277,8 @@ const COLUMN_ARGUMENTS: [Argument; 13] = [
     Argument::Given(
         Kind::Columns,
         KEY,
-        "The column of the key, by number or name; several, as 4,5 or '\"a, b\",c', are one key",
+        "The column of the key, by number or name (2024 is a number); several, as 4,5 or \
+        '\"a, b\",c', are one key",
     ),
     Argument::Given(
         Kind::Text("COLUMN"),
@@ -290,7 +291,7 @@ const COLUMN_ARGUMENTS: [Argument; 13] = [
         "A record of weight 0 or - adds nothing, and is no fault",
     ),
     Argument::Given(
-        Kind::Text("KEY"),
+        Kind::Filled("KEY"),
         BAD_AS,
         "Count each record that can't be read as one item of KEY, of weight 1, and tell how many",
     ),
@@ -302,12 +303,13 @@ const COLUMN_ARGUMENTS: [Argument; 13] = [
     Argument::Given(
         Kind::Text("BYTES"),
         UNTIL,
-        "The key ends before the first of these bytes in its last column, as ? in a path",
+        "The key ends before the first of these bytes (no letters) in its last column, as ? in a path",
     ),
     Argument::Given(
         Kind::Number,
         PREFIX,
-        "The key has at most the first N bytes of its last column, as 13 of a time to the hour",
+        "The key has at most the first N bytes of its last column, as 13 of a time to the hour; \
+        of 0 none is left",
     ),
     Argument::Given(
         Kind::Flag,

@@ -38,7 +38,8 @@ weight and then by key. The weights are exact. Records are those of the files, o
 standard input. Files are read once or twice, and may be larger than memory. Standard
 input and pipes are kept in memory up to --memory megabytes, and else in a file without
 a name in the folder TMPDIR, or /tmp. With --pieces, --tree, --width, --depth or --seed
-the records are kept, and the report is made by that plan; the rows are the same.",
+all records are kept in memory, whatever --memory says, and the report is made by that
+plan; the rows are the same.",
     end: "Exit status: 0 the report is whole; 1 input or a file could not be read or output
 not be written; 2 an option is refused; 3 a record is refused, or a header has no
 such column; 4 out of memory.
@@ -118,7 +119,8 @@ Example:
 pub const MERGE: Help = Help {
     about: "Merge saved files, and write the result to standard output",
     whole: "Merge saved files, and write the result to standard output: summaries of one k, or
-tables of one width, depth and seed. The result stands for the records of all.
+tables of one width, depth and seed. The result stands for the records of all. All files
+are held in memory at once. None is standard input: - is a file's name here.
 A word that begins with - is given after --",
     end: "Exit status: 0 the result is whole; 1 a file could not be read or output not be
 written; 2 wrong usage; 3 a file is damaged or of another kind; 4 out of memory.
@@ -220,14 +222,16 @@ order: rows key,weight, by falling weight and then by key. The weights are exact
 no heavy key is missing. Keys are heavy above 1/(k+1) of the total, or above a larger
 share of your own. It has no --k: the summary has a k of its own, which `heavy
 describe` tells. Records are those of the files behind the summary, or of standard
-input. Workers read files in pieces. One thread reads standard input, and all files
-where one of them is a pipe, a device or empty. No record is kept, so input can be
-larger than memory.
+input. Where a key's weight is outside the bounds that the summary has for it, they are
+other records: status 3. Of standard input with no file named and no option of records
+that is a note, and the status is 0. Workers read files in pieces. One thread reads
+standard input, and all files where one of them is a pipe, a device or empty. No record
+is kept, so input can be larger than memory.
 A word that begins with - is given after --",
     end: "Exit status: 0 all rows are written; 1 a file or input could not be read or
 output not be written; 2 wrong usage, or a threshold is refused; 3 the summary is
-damaged or none, a record is refused, a header has no such column, or the weights do
-not sum up to the summary's total; 4 out of memory.
+damaged or none, a record is refused, a header has no such column, the weights do not
+sum up to the summary's total, or one is outside its bounds; 4 out of memory.
 
 Example:
     $ printf 'a,5\\nb,3\\nc,2\\na,1\\n' > day.csv

@@ -8,6 +8,7 @@ ghost use Rattle.clap.specs.declared.builder.action.ArgAction.TheVariants.{Appen
 ghost use Rattle.heavy_arguments.specs.CommandLine.{flag, option, rule_of_argument, rule_of_kind};
 
 use crate::arguments::Number;
+use clap::builder::ValueParser;
 use clap::{Arg, ArgAction, value_parser};
 use std::alloc::Global;
 
@@ -33,6 +34,8 @@ pub(crate) enum Kind {
     Digit,
     /// An option with a text, by the name that help has for it.
     Text(&'static str),
+    /// An option with a text that isn't empty, by the name that help has for it.
+    Filled(&'static str),
     /// An option with a byte.
     Byte,
     /// An option with columns.
@@ -117,6 +120,9 @@ impl Kind {
                 option(alloc, name, "D", help).value_parser(value_parser!(u8).range(0..=9))
             }
             Kind::Text(value) => option(alloc, name, value, help),
+            Kind::Filled(value) => {
+                option(alloc, name, value, help).value_parser(ValueParser::NonEmptyString)
+            }
             Kind::Byte => option(alloc, name, "BYTE", help),
             Kind::Columns => option(alloc, name, "COLUMN", help).action(ArgAction::Append),
             Kind::Share => option(alloc, name, "P/Q", help).long_help(SHARE_HELP),
