@@ -185,9 +185,9 @@ fn top_of_sources<T: Threads + Wait + Sync, S: ReadAt + Sync>(
 /// counters for all keys, which then are the weights, and else once more, to count the keys that
 /// can be among the greatest, as far as the counters tell. The workers share the options' memory
 /// evenly for that, and a worker has at most 131,072 counters. Where these don't tell, one worker
-/// tallies the files anew before that, with all of the memory, so that the number of workers
-/// decides nothing. Nothing of a file is kept. Where a piece can't be read by itself, one thread
-/// reads all files from their starts, so that the first refusal has its number.
+/// tallies the files anew before that, with all of the memory, and only what it leaves open is
+/// refused. Nothing of a file is kept. Where a piece can't be read by itself, one thread reads all
+/// files from their starts, so that the first refusal has its number.
 ///
 /// The workers are tested first, of whom there are 1 to 64 ([`ToolError::BadWorkers`]), and then
 /// come the records ([`ToolError::ReadFault`], [`ToolError::NoColumn`],

@@ -1,9 +1,9 @@
 -- Exact sums of weights by key, from which a middle counter is taken whenever too many keys have come.
-use Rattle.std.specs.Prelude.{◌≡◌, ℕ, ◌+◌, ◌*◌, ◌/◌, ◌^◌, ◌≤◌, ◌<◌, Bool, cond, ◌&&◌, ◌||◌, nat_lt, false, List, [], ◌∷◌, length, max, min, sum_by, filter, fold}
+use Rattle.std.specs.Prelude.{◌≡◌, ℕ, ◌+◌, ◌*◌, ◌/◌, ◌^◌, ◌≤◌, ◌<◌, Bool, cond, ◌&&◌, ◌||◌, nat_lt, false, List, [], ◌∷◌, length, max, sum_by, filter, fold}
 use Rattle.std.specs.List.{AllByRecursion, IsDistinct}
 use Rattle.std.specs.Map.{keys_of}
 use Rattle.hh_stream.specs.Weights.{Bytes, Entry, same_key, weight_of, total_of}
-use Rattle.hh_summaries.specs.Counters.{Counters, SummaryView, cut, level, lower, max_k, tally}
+use Rattle.hh_summaries.specs.Counters.{Counters, SummaryView, cut, level, lower, tally}
 use Rattle.hh_tally.specs.declared.room.Room.{Room}
 
 -- with e's number added at e's key, which keeps its place; a new key comes last
@@ -29,15 +29,6 @@ pub record IsRoom (room : Room) : Type 0 where
 -- many of them whatever bytes they have, and 4 MiB of bytes
 abbrev pub room_for : ℕ → Room
 room_for k = record { keys = max 4096 (2 * (k + 1)); few = 2 * (k + 1); bytes = 4194304 }
-
--- the room of a tally in this many bytes of memory, or in no less than `room_for` gives the most counters: 128 bytes a key,
--- and a quarter of all for the keys' own
-abbrev pub room_in : ℕ → Room
-room_in memory = record {
-  keys = min max_keys (max (2 * (max_k + 1)) (memory / 128));
-  few = 2 * (max_k + 1);
-  bytes = max 4194304 (memory / 4);
-}
 
 -- whether the keys, more than a few, have too many bytes
 abbrev pub are_large : Room → List Bytes → Bool
