@@ -112,7 +112,7 @@ SummaryFails opens unopened words k method workers e =
     (NamesNoMethod method × (e ≡ tool.BadMethod))
     ⊎ ReadingFails opens unopened words 0 workers (RefusedAfter (bad_summary_of_files k workers)) e
 
--- how many bytes so many megabytes are, as far as a number has room
+-- the bytes of a number of megabytes, or the greatest number
 abbrev pub bytes_of : ℕ → ℕ
 bytes_of memory = min (memory * 1000000) (2 ^ 64 - 1)
 

@@ -34,7 +34,7 @@ fn pointed_by(rt: &HostRuntime, weight: u64, decimals: u8) -> Pointed {
 }
 
 /// Prints what the key behind the certain ones weighs at most, with `decimals` digits after the
-/// point, where counters had so many megabytes of `memory`. How many would do depends on the keys.
+/// point, where counters had `memory` megabytes. What would do isn't known: it depends on the keys.
 pub(crate) fn tell_next(rt: &HostRuntime, most: u64, decimals: u8, memory: u64) {
     let most = pointed_by(rt, most, decimals);
     let _ = eprintln!(rt;

@@ -26,13 +26,13 @@ TalliesRecords room known t = (xs : List Entry) × ReadsAs known (Ok xs) × (t.r
 abbrev pub TellsTop : ShortlistView → Type 0
 TellsTop list = (list.tally.lost ≡ 0) ⊎ (stand_out list ≡ true)
 
--- how many keys are counted at most, where counters have so many bytes of memory, or 256,000: a key in 8,000, but one, and no
--- more than a summary has counters
+-- how many keys are counted at most, where counters have this many bytes of memory, or 256,000 if that is more: a key in
+-- 8,000, but one, and no more than a summary has counters
 abbrev pub counted_in : ℕ → ℕ
 counted_in memory = min max_k (max 256000 memory / 8000 - 1)
 
--- the room of a tally in so much memory, where a key takes so many bytes besides its own, and so many keys are the most: a
--- quarter of all is for the keys' own bytes. Twice as many as are counted, and two more, are kept whatever bytes they have
+-- the room of a tally by the bytes that a key costs besides its own, the most keys, and the bytes of memory: a quarter of
+-- these is for the keys' own. Twice as many keys as are counted, and two more, are kept whatever bytes they have
 abbrev pub room_of : ℕ → ℕ → ℕ → Room
 room_of cost most memory = record {
   keys = min most (max 256000 memory / cost);
