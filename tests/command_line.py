@@ -6,6 +6,7 @@ usage: tests/command_line.py
 """
 import ast
 import csv
+import fcntl
 import io
 import json
 import os
@@ -269,9 +270,9 @@ class CommandLine(programs.Checks):
         ]:
             self.expect(["report", "-H", "--key", key, "--weight", "n"], (0, rows, b""), given)
             self.expect(["report", "-H", f"--key={key}", "--weight", "n"], (0, rows, b""), given)
-        columns = '"Last, First", "City", "a "b"", "n"'
+        columns = r'"Last, First", "City", "a \"b\"", "n"'
         for key, missing in [
-            ("Last, First", "Last"), ('"Last","First"', "Last"), ('"Last, First",', ""), ('""', ""), ('"a "b""', 'a b""'),
+            ("Last, First", "Last"), ('"Last","First"', "Last"), ('"Last, First",', ""), ('""', ""), ('"a "b""', r'a b\"\"'),
         ]:
             said = f'the header has no such column\n  standard input has no column "{missing}"; its header has {columns}'
             self.refuses(["report", "-H", "--key", key, "--weight", "n"], said, 3, text)
@@ -684,8 +685,15 @@ class CommandLine(programs.Checks):
         self.tells(["confirm", "day"], "day has 11, and the records have 5", 3, b"a,5\n")
         self.tells(["confirm", "table"], "table is a Count-Min table", 3)
         self.tells(["list", "table"], "table is a Count-Min table", 3)
-        self.tells(["merge", "day", "k3"], "k3", 3)
-        self.tells(["merge", "day", "day", "table"], "table", 3)
+        self.tells(["merge", "day", "k3"], "k3 is a summary with k 3, and day is a summary with k 2", 3)
+        self.tells(["merge", "day", "day", "table"], "table is a table of width 8 and depth 4, and day is a summary with k 2", 3)
+        self.save("wide", ["table", "--width", "9"])
+        self.save("seven", ["table", "--width", "8", "--seed", "7"])
+        self.save("most", ["summarise", "--k", "2"], b"a,9223372036854775807\n")
+        both = "wide is a table of width 9 and depth 4, and table is a table of width 8 and depth 4"
+        self.tells(["merge", "table", "wide"], both, 3)
+        self.tells(["merge", "table", "seven"], "seven has another depth or another seed", 3)
+        self.tells(["merge", "day", "most"], "most: with it the total is above 9223372036854775807", 3)
         files = {
             "none": (b"", "is empty"), "text": (RECORDS, "looks like text: `heavy summarise` saves records of such"),
             "short": (b"HHS2\x01", "begins as a saved file, and is damaged or cut off"), "bytes": (b"\0\1", "looks like no saved file"),
@@ -766,6 +774,7 @@ class CommandLine(programs.Checks):
             "dash": b"x a 5\ny a -\n", "dashes": b'k,w\na,"-"\n', "late": b"q" * 70 + b",-\n", "json": b'{"a":1,"b":2}\n',
             "list": b"a,1\n[1,2,3]\n", "gz": b"\x1f\x8b\x08\0,,,\n", "zst": b"\x28\xb5\x2f\xfd,1,2\n", "wide": b"\xff\xfea\0,\0\x31\0\n\0",
             "big": b"\xfe\xff\0a\0,\0,\0\n", "a\x1bb": b"host\nx\n", "short": b"k,w\na\n",
+            "texts": b'{"a":"x"}\n',
         }
         for name, data in files.items():
             Path(self.room, name).write_bytes(data)
@@ -799,6 +808,9 @@ class CommandLine(programs.Checks):
             (["-H", "--key", "w,k", "short"], 'short, line 2, "a": it has 1 field, and --key names column 2, "w"'),
             (["-d ", "--key", "1", "--weight", "3", "dash"], 'dash, line 2, "y a -": --allow-zero takes a weight of -, as 0'),
             (["-H", "--weight", "w", "dashes"], 'dashes, line 2, "a,\\"-\\"": --allow-zero takes a weight of -, as 0'),
+            (["--json", "--key", "a", "--weight", "a", "texts"],
+             'texts, line 1, "{\\"a\\":\\"x\\"}": a record is an object with each member that --key and --weight name: '
+             "a key is a text, a number, true or false, and a weight is a number"),
             (["late"], f'late, line 1, "{"q" * 60}"..: --allow-zero takes a weight of -, as 0'),
             (["-d ", "--key", "3", "--weight", "2", "dash"], f'dash, line 1, "x a 5": {weight}'),
             (["json"], 'json, line 1, "{\\"a\\":1,\\"b\\":2}": looks like JSON, and a record is CSV; --json reads an object a line'),
@@ -813,6 +825,79 @@ class CommandLine(programs.Checks):
                 self.names([*command, *words[:place], *saved, *words[place:]], more, 3)
                 name = words[-1]
                 self.names([*command, *words[:-1], *saved, "-"], more.replace(name, "standard input", 1), 3, files[name])
+
+    def test_places_behind_empty_inputs(self) -> None:
+        """A bad record has its file and its line behind inputs that can't be read again: where all that they gave is kept."""
+        wanted = "a weight is a whole number from 1 on; is the first line a header? --header; has it a point? --decimals"
+        Path(self.room, "bad").write_bytes(b"a,1\n\n\r\nb,x\nc,y\n")
+        self.save("day", ["summarise", "--k", "2"])
+        for command in (["report"], ["summarise"], ["table"], ["confirm", "day"], ["condense", "day"], ["report", "--pieces", "2"]):
+            for files in (["/dev/null", "bad"], ["/dev/null", "-", "bad"], ["-", "-", "/dev/null", "bad"]):
+                self.names([*command, *files], f'bad, line 4, "b,x": {wanted}', 3, b"")
+            self.names([*command, "/dev/null", "-"], f'standard input, line 2, "b,x": {wanted}', 3, b"a,1\nb,x\n")
+            self.names([*command, "-", "-", "bad"], f'bad, line 4, "b,x": {wanted}', 3, b"a,1\nq\n")
+        for before, number in ((b"", 2), (b"q,3\n", 3), (b"q\n" * 30_000, 30_002)):
+            said = self.of_pipe(b"a,1\nb,x\n", before)
+            told = re.fullmatch(rb'heavy: record (\d+): bad weight\n  /dev/fd/(\d+), line 2, "b,x": (.*)\n', said)
+            self.check(f"a second pipe behind {len(before)} bytes", told and (int(told[1]), told[3]) == (number, wanted.encode()), said)
+        said = self.of_pipe(b"a,1\nb,x\n", b"q\n" * 32_770)
+        self.check("a second pipe behind more than is kept", said == b"heavy: record 32772: bad weight\n  %s\n" % wanted.encode(), said)
+
+    def test_columns_of_other_formats(self) -> None:
+        """A column that is missing, and fields that are too few, where no field is quoted; a column's number as it was given."""
+        files = {"padded": b"  host   n \n x  5\n", "quotes": b'ho"st,n\nx,5\n', "lined": b"a line, whole\nx\n", "two": b"a,1\n"}
+        for name, data in files.items():
+            Path(self.room, name).write_bytes(data)
+        most = "99999999999999999999"
+        for words, more in [
+            (["-H", "--squeeze", "--key", "m", "padded"], 'padded has no column "m"; its header has "host", "n"'),
+            (["-H", "--no-quotes", "--key", "m", "quotes"], r'quotes has no column "m"; its header has "ho\"st", "n"'),
+            (["-H", "--no-quotes", "--delimiter", '"', "--key", "m", "quotes"], 'quotes has no column "m"; its header has "ho", "st,n"'),
+            (["-H", "--lines", "--key", "m", "lined"], 'lined has no column "m"; its header has "a line, whole"'),
+            (["--squeeze", "--key", "3", "padded"], 'padded, line 1, "  host   n ": it has 2 fields, and --key names column 3'),
+            (["--no-quotes", "--key", "3", "two"], 'two, line 1, "a,1": it has 2 fields, and --key names column 3'),
+            (["--lines", "--key", "2", "two"], 'two, line 1, "a,1": it has 1 field, and --key names column 2'),
+            (["--key", most, "two"], f'two, line 1, "a,1": it has 2 fields, and --key names column {most}'),
+            (["--key", "1", "--weight", f"00{most}", "two"], f'two, line 1, "a,1": it has 2 fields, and --weight names column {most}'),
+        ]:
+            for command in (["report"], ["summarise"], ["table"]):
+                self.names([*command, *words], more, 3)
+                place = more.replace(words[-1], "standard input", 1)
+                self.names([*command, *words[:-1], "-"], place, 3, files[words[-1]])
+
+    def test_long_headers(self) -> None:
+        """Of a header the names are shown up to 200 bytes, and cut between characters."""
+        for header, shown in [
+            (",".join(f"h{number:03}" for number in range(999)), ", ".join(f'"h{number:03}"' for number in range(25)) + ", .."),
+            (",".join(f"h{number:03}" for number in range(25)), ", ".join(f'"h{number:03}"' for number in range(25))),
+            ("q" * 200, f'"{"q" * 200}"'), ("q" * 201, f'"{"q" * 200}"..'), ("x" + "é" * 150, f'"x{"é" * 99}"..'),
+            ("é" * 99 + ",a", f'"{"é" * 99}", ..'),
+        ]:
+            Path(self.room, "long").write_bytes(header.encode() + b"\nx\n")
+            self.names(["report", "-H", "--key", "m", "long"], f'long has no column "m"; its header has {shown}', 3)
+
+    def test_reasons_of_devices(self) -> None:
+        """Why standard input can't be read, a saved file called -, and a file whose length says more than it has."""
+        ended = programs.run(["sh", "-c", '"$@" < /', "", self.program, "report", "--explain"], cwd=self.room)
+        said = b"heavy: input could not be read\n  standard input: Is a directory\n"
+        self.check("standard input that is a folder", (ended.status, ended.out, ended.err) == (1, b"", said), ended)
+        ear, mouth = os.pipe()
+        os.set_blocking(ear, False)
+        ended = programs.run([self.program, "report", "--explain"], stdin=ear)
+        os.close(ear)
+        os.close(mouth)
+        said = b"heavy: input could not be read\n  standard input: Resource temporarily unavailable\n"
+        self.check("standard input that isn't waited for", (ended.status, ended.out, ended.err) == (1, b"", said), ended)
+        saved = self.save("day", ["summarise", "--k", "2"])
+        dash = "- is no saved file: /dev/stdin names standard input"
+        for words in (["merge", "-"], ["merge", "day", "-"], ["list", "-"], ["ask", "-", "a"], ["condense", "-"], ["confirm", "-", "-"]):
+            self.tells(words, dash, 1, saved)
+        Path(self.room, "-").write_bytes(saved)
+        self.expect(["merge", "-"], (0, saved, b""))
+        path = "/sys/kernel/mm/transparent_hugepage/enabled"
+        if os.path.exists(path) and os.path.getsize(path) > len(Path(path).read_bytes()):
+            for command in (["report"], ["summarise"], ["table"]):
+                self.names([*command, path], f"{path}: it has fewer bytes than its length says; `cat` reads it into a pipe", 1)
 
     def test_places_of_records(self) -> None:
         """Of random texts in files: a bad record that is put at the place that is told, with nothing behind it, has the same
@@ -845,13 +930,19 @@ class CommandLine(programs.Checks):
             Path(self.room, str(number)).write_bytes(text)
         return self.heavy(["report", *options, *map(str, range(len(texts)))])[2]
 
-    def of_pipe(self, text: bytes) -> bytes:
-        """What a report of the file of a pipe says of its fault."""
-        ear, mouth = os.pipe()
-        os.write(mouth, text)
-        os.close(mouth)
-        ended = programs.run([self.program, "report", "--explain", f"/dev/fd/{ear}"], pass_fds=(ear,))
-        os.close(ear)
+    def of_pipe(self, text: bytes, before: bytes | None = None) -> bytes:
+        """What a report of the file of a pipe says of its fault, or of two of them."""
+        ears = []
+        for given in (before, text):
+            if given is not None:
+                ear, mouth = os.pipe()
+                fcntl.fcntl(mouth, fcntl.F_SETPIPE_SZ, 1 << 17)
+                os.write(mouth, given)
+                os.close(mouth)
+                ears.append(ear)
+        ended = programs.run([self.program, "report", "--explain", *(f"/dev/fd/{ear}" for ear in ears)], pass_fds=ears)
+        for ear in ears:
+            os.close(ear)
         return ended.err
 
     def notes(self, words: list, note: str, given: bytes = b"") -> None:
@@ -928,10 +1019,26 @@ class CommandLine(programs.Checks):
             (["--threshold", "9/10"], none % ("9/10", "a smaller --threshold shows more")), (["--threshold", "1/2"], ""),
             (["--k", "9999", "--top", "4"], "3 keys weigh more than 1/10000 of the total: --k 65535 shows those above 1/65536"),
             (["--k", "65535", "--top", "4"], "3 keys weigh more than 1/65536 of the total: `heavy top 4` shows the greatest"),
+            (["--k", "9", "--threshold", "1/10", "--top", "3"],
+             "2 keys weigh more than 1/10 of the total: a larger --k with a smaller --threshold shows more"),
+            (["--k", "9", "--threshold", "2/20", "--top", "3"],
+             "2 keys weigh more than 2/20 of the total: a larger --k with a smaller --threshold shows more"),
+            (["--k", "9", "--threshold", "1/9", "--top", "3"], "2 keys weigh more than 1/9 of the total: a smaller --threshold shows more"),
+            (["--k", "65535", "--threshold", "1/65536", "--top", "4"],
+             "3 keys weigh more than 1/65536 of the total: `heavy top 4` shows the greatest"),
         ]:
             self.notes(["report", *words], note, text)
         self.notes(["report", "--k", "1"], none % ("1/2", "--k 19 shows those above 1/20"), b"a\nb\n")
         self.notes(["report", "--k", "1", "--top", "1"], "", b'"a\nb"\n')
+        Path(self.room, "empty").write_bytes(b"")
+        Path(self.room, "header").write_bytes(b'\n"k\nl",w\n\n')
+        for words, given in [
+            ([], b""), ([], b"\n\r\n"), (["-H"], b"k,w\n"), (["--pieces", "2"], b""), (["--threshold", "1/2"], b""), (["--top", "9"], b""),
+            (["empty"], b""), (["-H", "header"], b""), (["-H", "header", "empty", "-"], b"k"), (["--names"], b""),
+        ]:
+            self.notes(["report", *words], "there are no records", given)
+        self.notes(["report", "--top", "0"], "")
+        self.notes(["report", "-H", "--k", "1", "header", "-"], none % ("1/2", "--k 19 shows those above 1/20"), b"k\na\nb\n")
 
     def test_notes_about_last_records(self) -> None:
         """A last record that begins with a quote and has more than 100 lines or 65,536 bytes: one line, always."""
@@ -959,7 +1066,7 @@ class CommandLine(programs.Checks):
             Path(self.room, "plain.csv").write_bytes(b"z;1\n" if "-d;" in words else b"z,1\n")
             for command in (["report"], ["summarise"], ["summarise", "--workers", "3"], ["table"], ["condense", "one"]):
                 name = f"{number}.csv"
-                said = (note % (name, *size)).encode() if size else b""
+                said = (note % (name, *size)).replace(" 1 lines", " 1 line").encode() if size else b""
                 for files, given in (([name], b""), ([name, "plain.csv"], b""), (["plain.csv", name], b""), (["-"], text), ([], text)):
                     shown = said if files and files != ["-"] else said.replace(name.encode(), b"standard input")
                     status, _, err = self.heavy([command[0], *words, *command[1:], *files], given)
@@ -994,7 +1101,8 @@ class CommandLine(programs.Checks):
             lines = 1 + len(re.findall(rb"\r\n|\r|\n", last))
             note = ""
             if last[:1] == b'"' and (len(last) > 65_536 or lines > 100):
-                note = f"begins with a quote and has {lines} lines, {len(last)} bytes: a quote that isn't closed takes all that follows\n"
+                note = f"begins with a quote and has {lines} line{'s' * (lines > 1)}, {len(last)} bytes: "
+                note += "a quote that isn't closed takes all that follows\n"
                 reported += 1
             path = Path(self.room, "drawn")
             path.write_bytes(text)

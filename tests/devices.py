@@ -97,7 +97,8 @@ class Devices(programs.Checks):
             ("no folder", {"TMPDIR": f"{folder}/none"}, None, b"No such file or directory"),
             ("a full folder", {"TMPDIR": folder}, 65_536, b"File too large"),
         ):
-            for more, second in (([], b""), (["--explain"], b"  the temporary folder: %s\n" % reason)):
+            second = f"  the temporary folder {environment['TMPDIR']}: ".encode() + reason + b"\n"
+            for more in ([], ["--explain"]):
                 ended = programs.run(
                     [*words, "--memory", "1", *more], text, env=os.environ | environment, preexec_fn=partial(short_files, limit)
                 )

@@ -176,6 +176,50 @@ class Progress(programs.Checks):
             right = len(shares) > 1 and {found[4] for found in shares} == {b"4.9"} and ends and all(ends)
             self.check(f"{words} tells of a file", right, told)
 
+    def test_several_inputs(self) -> None:
+        """Several inputs that one thread reads are one: the share, the time left and the records are those of all. A pipe among
+        them leaves no share."""
+        text = PART * 7
+        size, count = 3 * len(text), 3 * 7 * 19_999
+        paths = [Path(self.room, f"{number}.csv") for number in range(3)]
+        for path in paths:
+            path.write_bytes(text)
+        empty = Path(self.room, "empty")
+        empty.write_bytes(b"")
+        whole = b"heavy: %b and %d records read, " % (megabytes(size), count)
+        for words, files in [
+            (["summarise"], paths), (["summarise"], [paths[0], empty, *paths[1:], empty]), (["table"], [empty, *paths]),
+            (["report", "--pieces", "2"], paths),
+        ]:
+            ended = programs.run([self.program, *words, "--progress", *map(str, files)], env=self.at(STEP))
+            lines = ended.err.splitlines(keepends=True)
+            found = [read for read in map(FILE.fullmatch, lines) if read]
+            name = f"{words} of {len(files)} files"
+            self.check(f"{name}: each share is of all", found and {read[4] for read in found} == {megabytes(size)[:-3]}, lines)
+            for what, places in (("share", 3), ("records", 2), ("bytes", 1)):
+                told = [float(read[places]) for read in found]
+                self.check(f"{name}: the {what} grow", all(one <= next for one, next in itertools.pairwise(told)), told)
+            # of 81 reads with bytes each third looks at the clock when a second has passed
+            self.check(f"{name}: a line a second", len(found) > 20, len(found))
+            rest = lines[len(found) :]
+            self.check(f"{name}: the whole at the end", rest and all(line.startswith(whole) for line in rest) and len(rest) < 6, lines)
+        ended = programs.run(["sh", "-c", 'cat "$2" | "$1" summarise --progress "$2" - "$3"', "", self.program, *map(str, paths[:2])],
+                             env={**os.environ, **self.at(0)})
+        told = b"heavy: %b and %d records read, " % (megabytes(size), count)
+        self.check("with a pipe among them", ended.err.startswith(told) and b"%" not in ended.err, ended.err)
+
+    def test_summarise_workers(self) -> None:
+        """A summary of a named file: two workers or more tell the share of one pass, and one counts its records."""
+        many = Path(self.room, "many.csv")
+        many.write_bytes(PART * 20)
+        words = [self.program, "summarise"]
+        self.try_named_file("summarise", [*words, "--k", "2000"], many, 1, ("2", "3"))
+        for alone in ([], ["--workers", "1"]):
+            ended = programs.run([*words, *alone, "--progress", str(many)], env=self.at(STEP))
+            lines = ended.err.splitlines(keepends=True)
+            shares = [read for read in map(FILE.fullmatch, lines) if read]
+            self.check(f"summarise {alone} counts its records", len(shares) > 5 and {read[4] for read in shares} == {b"4.9"}, lines)
+
     def told_of(self, words: list[str], path: Path) -> list[bytes]:
         """What a run tells whose standard input is this file."""
         with open(path, "rb") as records:
@@ -191,11 +235,11 @@ class Progress(programs.Checks):
             if name != "summarise":
                 self.try_named_file(name, [self.program, *words], many, 2 if name == "report" else 1)
 
-    def try_named_file(self, name: str, words: list[str], path: Path, passes: int) -> None:
+    def try_named_file(self, name: str, words: list[str], path: Path, passes: int, numbers: tuple[str, ...] = ("1", "3")) -> None:
         size = path.stat().st_size * passes
         wanted = (b" in two passes" if passes == 2 else None, b"%d.%d" % (size // 1_000_000, size % 1_000_000 // 100_000))
         plain = programs.run([*words, str(path)])
-        for workers in ("1", "3"):
+        for workers in numbers:
             told = programs.run([*words, "--workers", workers, "--progress", str(path)], env=self.at(STEP))
             lines = told.err.splitlines(keepends=True)
             found = [read for read in map(NAMED.fullmatch, lines) if read and read[2]]

@@ -26,7 +26,8 @@ fn wanted(cause: BadRecordCause, layout: &LayoutWords) -> &'static str {
     let decimals = layout.decimals;
     match cause {
         BadRecordCause::FieldCount if layout.format.is_json() => {
-            "a record is an object with each member that --key and --weight name: text or a number"
+            "a record is an object with each member that --key and --weight name: a key is a text, \
+            a number, true or false, and a weight is a number"
         }
         BadRecordCause::FieldCount if names_columns(layout) => {
             "a record has each column that --key and --weight name"
@@ -121,8 +122,8 @@ fn verdict_on<'a>(texts: Texts<'a>, place: &RecordPlace<'_>, cause: BadRecordCau
 /// Names the format that `text` begins as, where it is one that no command reads and the text can
 /// be looked at again.
 fn format_of(texts: Texts<'_>, text: Text<'_>) -> Option<&'static str> {
-    match texts.begin.bytes_of(text.number) {
-        Some(bytes) => other_format(&bytes),
+    match texts.begin.of(text.number) {
+        Some(first) => other_format(&first.bytes),
         None => other_format(&begin_of(texts.rt, text.name)?),
     }
 }

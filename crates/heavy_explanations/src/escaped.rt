@@ -51,6 +51,34 @@ impl<'a> Display for Name<'a> {
     }
 }
 
+/// Writes `text` with its control characters, quotes and backslashes escaped.
+fn write_quoted<W: fmt::Write>(f: &mut fmt::Formatter<W>, text: &str) -> fmt::Result {
+    for character in text.chars() {
+        if matches!(character, '"' | '\\') {
+            f.write_char('\\')?;
+        }
+        write_character(f, character, false)?;
+    }
+    Ok(())
+}
+
+/// A name in quotes, as of a column. What would end it or hide in it is escaped.
+#[derive(Clone, Copy)]
+pub(crate) struct Quoted<'a>(pub(crate) &'a [u8]);
+
+impl<'a> Display for Quoted<'a> {
+    fn fmt<W: fmt::Write>(&self, f: &mut fmt::Formatter<W>) -> fmt::Result {
+        match str::from_utf8(self.0) {
+            Ok(text) => {
+                f.write_str("\"")?;
+                write_quoted(f, text)?;
+                f.write_str("\"")
+            }
+            Err(_) => write!(f, "\"{}\"", self.0.escape_ascii()),
+        }
+    }
+}
+
 /// Prints a line about the file `name`: the name, what stands `between`, and `words`.
 pub(crate) fn print_about(rt: &HostRuntime, name: Name<'_>, between: &str, words: &str) {
     let _ = eprintln!(rt; "  {name}{between}{words}");

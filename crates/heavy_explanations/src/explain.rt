@@ -7,9 +7,10 @@ use crate::comparisons::{tell_next, tell_outside, tell_totals};
 use crate::escaped::{Name, print_about};
 use crate::file_names::FileNames;
 use crate::first_bytes::tell_looks;
-use crate::reasons::{tell_unkept, tell_unread};
+use crate::reasons::{tell_standard, tell_unkept, tell_unread};
 use crate::record_place::Texts;
-use heavy_host::Unread;
+use crate::saved_kinds::{tell_kinds, tell_unmerged};
+use heavy_host::{Unread, is_standard};
 use heavy_requests::{Command, Invocation, Request};
 use hh_commands::Comparison;
 use hh_faults::ToolError;
@@ -38,6 +39,12 @@ pub(crate) fn names_records(fault: &ToolError, asked: &Invocation) -> bool {
     }
 }
 
+/// Whether the file `number` of `names` is a saved one with the name that standard input has among
+/// records.
+fn is_dash(names: FileNames<'_>, number: u64) -> bool {
+    names.is_saved(number) && is_standard(names.name(number))
+}
+
 /// Prints more about the `fault` of a file, one of `names`, where there is more to say.
 pub(crate) fn explain_file(
     rt: &HostRuntime,
@@ -49,11 +56,19 @@ pub(crate) fn explain_file(
         ToolError::ReadFault | ToolError::FileFault { .. } if unread.is_unkept() => {
             tell_unkept(rt, unread);
         }
+        ToolError::ReadFault => tell_standard(rt, unread),
+        ToolError::FileFault { number } if is_dash(names, *number) => {
+            print_about(
+                rt,
+                Name(b"-"),
+                " ",
+                "is no saved file: /dev/stdin names standard input",
+            );
+        }
         ToolError::FileFault { number } => tell_unread(rt, names.input(*number), unread),
         ToolError::BadFile { number, .. } => tell_looks(rt, names.name(*number)),
-        ToolError::MixedKinds { number } | ToolError::CannotMerge { number, .. } => {
-            print_about(rt, Name(names.name(*number)), "", "");
-        }
+        ToolError::MixedKinds { number } => tell_kinds(rt, names, *number),
+        ToolError::CannotMerge { number, cause } => tell_unmerged(rt, names, *number, *cause),
         ToolError::NotCounters => {
             print_about(rt, Name(names.name(1)), " ", "is a Count-Min table");
         }

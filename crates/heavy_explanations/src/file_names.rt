@@ -19,12 +19,15 @@ pub(crate) struct FileNames<'a> {
     /// A saved one, or the first that is merged.
     first: Option<&'a [u8]>,
     others: &'a [Vec<u8>],
+    /// Whether the others are saved ones too.
+    are_merged: bool,
 }
 
 impl<'a> FileNames<'a> {
     /// Gives those that `asked` names. Files of records stand after a saved one.
     pub(crate) fn of(asked: &'a Invocation) -> FileNames<'a> {
         let records = asked.records.files.as_slice();
+        let are_merged = matches!(&asked.request, Request::Answer(Command::Merge { .. }));
         let (first, others) = match &asked.request {
             Request::Answer(Command::Merge { first, others }) => (first, others.as_slice()),
             Request::Answer(
@@ -38,12 +41,14 @@ impl<'a> FileNames<'a> {
                 return FileNames {
                     first: None,
                     others: records,
+                    are_merged,
                 };
             }
         };
         FileNames {
             first: Some(first.as_slice()),
             others,
+            are_merged,
         }
     }
 
@@ -60,8 +65,17 @@ impl<'a> FileNames<'a> {
         }
     }
 
+    /// Whether the file `number` is a saved one, for which `-` is a name as any other.
+    pub(crate) fn is_saved(self, number: u64) -> bool {
+        self.are_merged || (self.first.is_some() && number == 1)
+    }
+
     /// Gives what the input `number` is called.
     pub(crate) fn input(self, number: u64) -> Name<'a> {
-        input_name(self.name(number), number)
+        if self.is_saved(number) {
+            Name(self.name(number))
+        } else {
+            input_name(self.name(number), number)
+        }
     }
 }

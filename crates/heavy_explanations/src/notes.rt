@@ -2,7 +2,7 @@
 
 use crate::escaped::Name;
 use crate::file_names::FileNames;
-use crate::thresholds::MOST_COUNTERS;
+use crate::thresholds::{MOST_COUNTERS, is_least};
 use heavy_progress::{FormatHints, LongRecord};
 use heavy_requests::{Invocation, Request};
 use hh_output::Form;
@@ -46,8 +46,9 @@ pub(crate) fn print_long(rt: &HostRuntime, long: Option<LongRecord>, names: File
     if let Some(long) = long {
         let name = names.input(long.number);
         let (lines, bytes) = (long.size.lines, long.size.bytes);
+        let s = if lines == 1 { "" } else { "s" };
         let _ = eprintln!(rt;
-            "heavy: note: the last record of {name} begins with a quote and has {lines} lines, \
+            "heavy: note: the last record of {name} begins with a quote and has {lines} line{s}, \
             {bytes} bytes: a quote that isn't closed takes all that follows"
         );
     }
@@ -89,23 +90,46 @@ fn print_above_counters(rt: &HostRuntime, keys: KeysAbove, k: u64, top: u64) {
     };
 }
 
+/// What shows more than the keys above a share.
+#[derive(Clone, Copy)]
+enum More {
+    Threshold,
+    Counters,
+    /// The greatest keys, of this number.
+    Top(u64),
+}
+
+impl Display for More {
+    fn fmt<W: fmt::Write>(&self, f: &mut fmt::Formatter<W>) -> fmt::Result {
+        match self {
+            More::Threshold => f.write_str("a smaller --threshold shows more"),
+            More::Counters => f.write_str("a larger --k with a smaller --threshold shows more"),
+            More::Top(top) => write!(f, "`heavy top {top}` shows the greatest"),
+        }
+    }
+}
+
 /// Prints that few keys are above the `share`, and what shows more.
 fn print_above(rt: &HostRuntime, keys: KeysAbove, share: &Share, k: u64, top: u64) {
     match share {
-        Share::Text(share) => {
-            let share = Name(share);
-            let _ = eprintln!(rt;
-                "heavy: note: {keys} more than {share} of the total: a smaller --threshold shows \
-                more"
-            );
+        Share::Text(word) => {
+            let more = if !is_least(share, k) {
+                More::Threshold
+            } else if k < MOST_COUNTERS {
+                More::Counters
+            } else {
+                More::Top(top)
+            };
+            let word = Name(word);
+            let _ = eprintln!(rt; "heavy: note: {keys} more than {word} of the total: {more}");
         }
         Share::OfCounters => print_above_counters(rt, keys, k, top),
     }
 }
 
 /// Prints how many keys a report has, of which `rows` were written, where it has fewer than were
-/// asked for or none, and what shows more.
-pub(crate) fn print_few_keys(rt: &HostRuntime, asked: &Invocation, rows: u64) {
+/// asked for or none, and what shows more; and where it has none, whether it `has_records`.
+pub(crate) fn print_few_keys(rt: &HostRuntime, asked: &Invocation, rows: u64, has_records: bool) {
     let Request::Report {
         options,
         rows: wanted,
@@ -117,7 +141,9 @@ pub(crate) fn print_few_keys(rt: &HostRuntime, asked: &Invocation, rows: u64) {
     let has_header = asked.output.has_names && asked.output.form != Form::Json;
     let keys = rows.saturating_sub(u64::from(has_header));
     let top = wanted.top.unwrap_or(1);
-    if keys < top {
+    if keys < top && !has_records {
+        let _ = rt.eprintln("heavy: note: there are no records");
+    } else if keys < top {
         print_above(rt, KeysAbove(keys), &options.threshold, options.k, top);
     }
 }

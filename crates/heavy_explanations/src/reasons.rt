@@ -1,7 +1,10 @@
 //! Why an input can't be read, or kept.
 
 use crate::escaped::{Name, print_about};
+use crate::first_bytes::disk_file;
 use heavy_host::Unread;
+use heavy_inputs::temporary_folder;
+use std::os::unix::fs::FileExt;
 
 /// Gives the system's reason in the `text` of an error, which ends by the error's number.
 fn reason_in(text: &str) -> &str {
@@ -25,16 +28,53 @@ fn tell_error(rt: &HostRuntime, name: Name<'_>, unread: &Unread, otherwise: Opti
     }
 }
 
+/// Whether the file `name` of the disk has fewer bytes than its length says, as those of /sys do.
+fn is_shorter(rt: &HostRuntime, name: &[u8]) -> bool {
+    let Some(file) = disk_file(rt, name) else {
+        return false;
+    };
+    let Ok(metadata) = file.metadata() else {
+        return false;
+    };
+    let mut byte = [0u8];
+    match metadata.len().checked_sub(1) {
+        Some(last) => matches!(FileExt::read_at(&file, &mut byte, last), Ok(0)),
+        None => false,
+    }
+}
+
+/// Says why the file `name` couldn't be read to its end, where the system gave no reason.
+fn reason_of(rt: &HostRuntime, name: &[u8]) -> &'static str {
+    if is_shorter(rt, name) {
+        "it has fewer bytes than its length says; `cat` reads it into a pipe"
+    } else {
+        "it changed while it was read"
+    }
+}
+
 /// Prints why the file `name` couldn't be read when it was tried.
 pub(crate) fn tell_unread(rt: &HostRuntime, name: Name<'_>, unread: &Unread) {
     if str::from_utf8(name.0).is_err() {
         print_about(rt, name, ": ", "its name isn't UTF-8");
+    } else if unread.error().is_some() {
+        tell_error(rt, name, unread, None);
     } else {
-        tell_error(rt, name, unread, Some("it changed while it was read"));
+        print_about(rt, name, ": ", reason_of(rt, name.0));
     }
+}
+
+/// Prints why standard input couldn't be read, where the system gave a reason.
+pub(crate) fn tell_standard(rt: &HostRuntime, unread: &Unread) {
+    tell_error(rt, Name(b"standard input"), unread, None);
 }
 
 /// Prints why a pipe's bytes could not be kept.
 pub(crate) fn tell_unkept(rt: &HostRuntime, unread: &Unread) {
-    tell_error(rt, Name(b"the temporary folder"), unread, None);
+    let Ok(folder) = temporary_folder(rt) else {
+        return;
+    };
+    if let Ok(name) = format!(in rt.alloc(); "the temporary folder {folder}") {
+        let reason = "a pipe could not be kept there";
+        tell_error(rt, Name(name.as_bytes()), unread, Some(reason));
+    }
 }

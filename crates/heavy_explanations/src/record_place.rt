@@ -5,6 +5,7 @@ use crate::file_names::input_name;
 use crate::first_bytes::disk_file;
 use heavy_progress::{Begin, RecordCount};
 use heavy_requests::{RecordWords, split_fields};
+use hh_records::{Format, delimiter_of};
 use std::alloc::{AllocError, Global};
 use std::fs::File;
 use std::io::Read;
@@ -24,6 +25,41 @@ const MARK: &[u8] = b"\xef\xbb\xbf";
 /// Gives the `bytes` of a text without the mark that may stand before it.
 fn without_mark(bytes: &[u8]) -> &[u8] {
     bytes.strip_prefix(MARK).unwrap_or(bytes)
+}
+
+/// Splits the `bytes` of a record at each `delimiter`. Nothing is quoted.
+fn split_plain(alloc: Global, delimiter: u8, bytes: &[u8]) -> Result<Vec<Vec<u8>>, AllocError> {
+    let mut fields = Vec::new(alloc);
+    let mut field = Vec::new(alloc);
+    for byte in bytes {
+        if *byte == delimiter {
+            fields.push(field)?;
+            field = Vec::new(alloc);
+        } else {
+            field.push(*byte)?;
+        }
+    }
+    fields.push(field)?;
+    Ok(fields)
+}
+
+/// Splits the `bytes` of a record at each `delimiter`, where several are one and those at its ends
+/// are none.
+fn split_squeezed(alloc: Global, delimiter: u8, bytes: &[u8]) -> Result<Vec<Vec<u8>>, AllocError> {
+    let mut fields = Vec::new(alloc);
+    for field in split_plain(alloc, delimiter, bytes)? {
+        if !field.is_empty() {
+            fields.push(field)?;
+        }
+    }
+    Ok(fields)
+}
+
+/// Gives the `bytes` of a record as its only field.
+fn whole(alloc: Global, bytes: &[u8]) -> Result<Vec<Vec<u8>>, AllocError> {
+    let mut fields = Vec::new(alloc);
+    fields.push(Vec::from_slice(alloc, bytes)?)?;
+    Ok(fields)
 }
 
 /// A text of records: the name and the number of its input.
@@ -164,30 +200,45 @@ impl<'a> Texts<'a> {
         })
     }
 
-    /// Gives the byte between two fields of the records, where they may be quoted.
-    pub(crate) fn delimiter(self) -> Option<u8> {
-        if self.records.layout.format.has_quotes() {
-            self.records.parting_byte()
-        } else {
-            None
+    /// Gives the byte between two fields of the records, which is `usual` where no option names it.
+    fn delimiter(self, usual: u8) -> Option<u8> {
+        match &self.records.layout.delimiter {
+            None => Some(usual),
+            Some(word) => match word.as_slice() {
+                [byte] => Some(*byte),
+                word => delimiter_of(word),
+            },
         }
     }
 
-    /// Splits the record at `place` into its fields, where they may be quoted and it isn't too long
-    /// for that.
+    /// Splits the `bytes` of a record into its fields, but not those of an object.
+    fn split(self, bytes: &[u8]) -> Option<Vec<Vec<u8>>> {
+        let alloc = self.rt.alloc();
+        let fields = match self.records.layout.format {
+            Format::Csv => split_fields(alloc, self.delimiter(b',')?, bytes),
+            Format::Unquoted => split_plain(alloc, self.delimiter(b',')?, bytes),
+            Format::Squeezed => split_squeezed(alloc, self.delimiter(b' ')?, bytes),
+            Format::Lines => whole(alloc, bytes),
+            Format::Json => return None,
+        };
+        fields.ok()
+    }
+
+    /// Splits the record at `place` into its fields, where it is no object and isn't too long for
+    /// that.
     pub(crate) fn fields_of(self, place: &RecordPlace<'_>) -> Option<Vec<Vec<u8>>> {
         if place.bytes.len() > MOST_KEPT {
             return None;
         }
-        split_fields(self.rt.alloc(), self.delimiter()?, &place.bytes).ok()
+        self.split(&place.bytes)
     }
 
     /// Takes the bytes of `text` into `search`, up to those with the record, and says whether they
     /// are taken: not where the text can't be looked at again.
     fn take_text(self, text: Text<'_>, search: &mut Search) -> Option<()> {
-        if let Some(bytes) = self.begin.bytes_of(text.number) {
-            let has_come = search.take_all(without_mark(&bytes)).ok()?;
-            return (has_come || self.begin.is_whole()).then_some(());
+        if let Some(first) = self.begin.of(text.number) {
+            let has_come = search.take_all(without_mark(&first.bytes)).ok()?;
+            return (has_come || first.is_whole).then_some(());
         }
         if text.name == b"-".as_slice() {
             return None;
@@ -211,7 +262,7 @@ impl<'a> Texts<'a> {
         if !self.records.layout.has_header || header.is_empty() {
             return None;
         }
-        split_fields(self.rt.alloc(), self.delimiter()?, &header).ok()
+        self.split(&header)
     }
 
     /// Gives the place of the record `number`, from 1 on, if each text up to its own can be looked

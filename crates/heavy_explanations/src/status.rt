@@ -47,7 +47,7 @@ fn explain(inputs: Inputs<'_>, fault: &ToolError, asked: &Invocation, compared: 
 }
 
 /// Prints a fault of what was asked for. More about it comes where that is asked for, standard
-/// error is a terminal, or the fault is one of records that are named.
+/// error is a terminal, the fault is one of records that are named, or a pipe could not be kept.
 fn print_explained(
     inputs: Inputs<'_>,
     fault: &ToolError,
@@ -55,7 +55,8 @@ fn print_explained(
     compared: &Comparison,
 ) {
     print_fault(inputs.rt, fault);
-    if asked.explains_faults(inputs.rt) || names_records(fault, asked) {
+    let is_unkept = inputs.notes.unread.is_unkept();
+    if is_unkept || asked.explains_faults(inputs.rt) || names_records(fault, asked) {
         explain(inputs, fault, asked, compared);
     }
 }
@@ -96,7 +97,7 @@ fn print_notes(inputs: Inputs<'_>, asked: &Invocation, compared: &Comparison, ro
     let (hints, names) = (inputs.notes.hints.get(), FileNames::of(asked));
     if asked.explains_faults(rt) {
         print_format_hint(rt, hints, names);
-        print_few_keys(rt, asked, rows);
+        print_few_keys(rt, asked, rows, hints.has_records);
     }
     print_long(rt, hints.long, names);
     print_bad(rt, inputs.notes.bad.count(), &layout.bad_as);

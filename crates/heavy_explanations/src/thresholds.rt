@@ -71,6 +71,14 @@ fn fraction_of(word: &[u8]) -> Option<(u64, u64)> {
     (digits > 0 && digits <= one).then_some(reduced(digits, one))
 }
 
+/// Whether each smaller share than this one is refused with `k` counters.
+pub(crate) fn is_least(share: &Share, k: u64) -> bool {
+    match threshold_of(MOST_COUNTERS, share) {
+        Some((p, q)) => p.saturating_mul(k.saturating_add(1)) <= q,
+        None => false,
+    }
+}
+
 /// Prints which k a share needs, or how it is written.
 fn tell_share(rt: &HostRuntime, share: &Share, owner: &str) {
     if let Share::Text(word) = share {

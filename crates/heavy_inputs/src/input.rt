@@ -21,9 +21,17 @@ pub(crate) enum InputSource {
     Nothing,
 }
 
+/// How many bytes a file has, where it is one of the disk.
+pub(crate) fn len_in(metadata: &Metadata) -> Option<u64> {
+    metadata.is_file().then_some(metadata.len())
+}
+
 /// How many bytes a file has, where it is one of the disk that isn't empty.
-pub(crate) fn size_in(metadata: &Metadata) -> Option<u64> {
-    (metadata.is_file() && metadata.len() > 0).then_some(metadata.len())
+fn size_in(metadata: &Metadata) -> Option<u64> {
+    match len_in(metadata) {
+        Some(0) | None => None,
+        len => len,
+    }
 }
 
 /// Makes an open `file` ready to be read from its start. A `delimiter` is given where fields may

@@ -4,7 +4,7 @@ ghost use Rattle.std.specs.Prelude.{◌≡◌, ◌⊎◌, IfErr};
 ghost use Rattle.heavy_host.specs.Opening.{FailsToOpen};
 
 use crate::disk_file::{DiskFile, LOOK_LEN};
-use crate::input::{Input, InputSource, Reader, size_in, source_of};
+use crate::input::{Input, InputSource, Reader, len_in, source_of};
 use crate::kept_pipe::keep_pipe;
 use crate::notes::InputNotes;
 use crate::open_file::OpenFile;
@@ -121,14 +121,14 @@ impl<'a> Inputs<'a> {
 
     /// Makes a reader of an open `input`.
     pub fn reader(self, input: OpenInput) -> Reader<'a> {
-        let size = match &input.source {
-            InputSource::Standard(_) => self.size_at("/dev/stdin"),
-            InputSource::Disk(file, _) => Some(file.first_len()),
-            _ => None,
-        };
+        let size = self.len_of(&input.source);
         let keeps_begin = self.keeps_begin && !input.is_disk_file();
         let inner = self.input(input.source, input.number, keeps_begin);
-        ProgressReader::new(self.rt, inner, size, self.form, self.progress.is_some())
+        let all = match self.progress {
+            Some(_) => Some(&self.notes.progress),
+            None => None,
+        };
+        ProgressReader::new(self.rt, inner, size, self.form, all)
     }
 
     /// Makes of an open `input` what is read at any place: a file of the disk is read as it is, and
@@ -162,11 +162,21 @@ impl<'a> Inputs<'a> {
         }
     }
 
-    /// How many bytes the file at `path` has, where it is one of the disk that isn't empty.
-    fn size_at(self, path: &str) -> Option<u64> {
+    /// How many bytes the file at `path` has, where it is one of the disk.
+    fn len_at(self, path: &str) -> Option<u64> {
         match fs::metadata(self.rt, path) {
-            Ok(metadata) => size_in(&metadata),
+            Ok(metadata) => len_in(&metadata),
             Err(_) => None,
+        }
+    }
+
+    /// How many bytes `source` has, where that is known before it is read.
+    fn len_of(self, source: &InputSource) -> Option<u64> {
+        match source {
+            InputSource::Standard(_) => self.len_at("/dev/stdin"),
+            InputSource::Disk(file, _) => Some(file.first_len()),
+            InputSource::File(file) => len_in(&file.metadata().ok()?),
+            InputSource::Nothing => Some(0),
         }
     }
 
@@ -174,7 +184,7 @@ impl<'a> Inputs<'a> {
     /// can be opened once.
     fn is_disk_file(self, name: &[u8]) -> bool {
         match str::from_utf8(name) {
-            Ok(path) => !is_standard(name) && self.size_at(path).is_some(),
+            Ok(path) => !is_standard(name) && self.len_at(path).unwrap_or(0) > 0,
             Err(_) => false,
         }
     }

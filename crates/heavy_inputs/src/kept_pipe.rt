@@ -74,16 +74,21 @@ impl ReadAt for KeptPipe {
     }
 }
 
+/// Gives the folder in which a pipe is kept.
+pub fn temporary_folder(rt: &HostRuntime) -> io::Result<String> {
+    match env::var(rt, "TMPDIR") {
+        Ok(folder) => Ok(folder),
+        Err(_) => Ok(String::from_str(rt.alloc(), "/tmp")?),
+    }
+}
+
 /// Gives a path in the temporary folder, with a random number in its name.
 fn temporary_path(rt: &HostRuntime) -> io::Result<String> {
     let mut random = [0; 8];
     rt.fill_bytes(&mut random)?;
     let number = u64::from_le_bytes(random);
-    let path = match env::var(rt, "TMPDIR") {
-        Ok(folder) => format!(in rt.alloc(); "{folder}/heavy-{number:016x}")?,
-        Err(_) => format!(in rt.alloc(); "/tmp/heavy-{number:016x}")?,
-    };
-    Ok(path)
+    let folder = temporary_folder(rt)?;
+    Ok(format!(in rt.alloc(); "{folder}/heavy-{number:016x}")?)
 }
 
 /// Makes a file of the temporary folder, and removes its name at once.

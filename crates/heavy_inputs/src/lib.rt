@@ -13,5 +13,6 @@ mod saved_file;
 
 pub use input::Reader;
 pub use inputs::{Inputs, OpenInput, shared_progress};
+pub use kept_pipe::temporary_folder;
 pub use notes::InputNotes;
 pub use open_file::OpenFile;

@@ -2,7 +2,7 @@
 
 use crate::bad_count::BadCount;
 use heavy_host::Unread;
-use heavy_progress::{Begin, FormatHints, NOTHING};
+use heavy_progress::{Begin, FormatHints, NOTHING, ReadProgress};
 use std::alloc::Global;
 use std::cell::Cell;
 
@@ -15,8 +15,10 @@ pub struct InputNotes {
     pub hints: Cell<FormatHints>,
     /// How many records were bad and counted as a key.
     pub bad: BadCount,
-    /// The first bytes of an input that can't be read again.
+    /// The first bytes of the inputs that can't be read again.
     pub begin: Begin,
+    /// How far this thread is in its inputs.
+    pub(crate) progress: ReadProgress,
 }
 
 impl InputNotes {
@@ -27,6 +29,7 @@ impl InputNotes {
             hints: Cell::new(NOTHING),
             bad: BadCount::new(),
             begin: Begin::new(alloc),
+            progress: ReadProgress::new(),
         }
     }
 }

@@ -1,71 +1,111 @@
-//! The first bytes of an input that can't be read a second time, kept for what is printed of its
-//! faults.
+//! The first bytes of the inputs that can't be read a second time, kept for what is printed of
+//! their faults.
 
-use std::alloc::Global;
-use std::cell::{Cell, Ref, RefCell};
+use std::alloc::{AllocError, Global};
+use std::cell::{Cell, RefCell};
 
-/// The most bytes that are kept.
+/// The most bytes that are kept of all inputs.
 const MOST: usize = 65_536;
 
-/// What is known of the input whose bytes are kept.
-#[derive(Clone, Copy)]
-struct Kept {
+/// The first bytes of an input.
+#[derive(Drop)]
+pub struct FirstBytes {
     number: u64,
-    /// Whether all bytes that came of it are kept.
-    is_whole: bool,
+    pub bytes: Vec<u8>,
+    /// Whether these are all bytes that came of it.
+    pub is_whole: bool,
 }
 
-/// The first bytes of one input: of the first one that gives any.
+impl FirstBytes {
+    /// Begins with none of the input `number`.
+    fn new(alloc: Global, number: u64) -> FirstBytes {
+        FirstBytes {
+            number,
+            bytes: Vec::new(alloc),
+            is_whole: true,
+        }
+    }
+
+    /// Keeps the next `bytes` as far as there is `room` and memory, and gives the room that is left.
+    fn add(&mut self, bytes: &[u8], room: usize) -> usize {
+        if !self.is_whole {
+            return room;
+        }
+        let first = bytes.get(..room).unwrap_or(bytes);
+        let are_kept = self.bytes.extend_from_slice(first).is_ok();
+        self.is_whole = are_kept && first.len() == bytes.len();
+        room.saturating_sub(first.len())
+    }
+
+    /// Copies them.
+    fn copy(&self, alloc: Global) -> Result<FirstBytes, AllocError> {
+        Ok(FirstBytes {
+            number: self.number,
+            bytes: Vec::from_slice(alloc, self.bytes.as_slice())?,
+            is_whole: self.is_whole,
+        })
+    }
+}
+
+/// Pushes the input `number` after `inputs`, unless it is the last of them.
+fn push_input(alloc: Global, inputs: &mut Vec<FirstBytes>, number: u64) -> Result<(), AllocError> {
+    let is_last = match inputs.last() {
+        Some(last) => last.number == number,
+        None => false,
+    };
+    if !is_last {
+        inputs.push(FirstBytes::new(alloc, number))?;
+    }
+    Ok(())
+}
+
+/// Copies what `inputs` have of the input `number`.
+fn copy_of(alloc: Global, inputs: &[FirstBytes], number: u64) -> Option<FirstBytes> {
+    for input in inputs {
+        if input.number == number {
+            return input.copy(alloc).ok();
+        }
+    }
+    None
+}
+
+/// The first bytes of inputs, which are read one after the other: as many of all as there is room
+/// for.
 #[derive(Drop)]
 pub struct Begin {
-    kept: Cell<Option<Kept>>,
-    bytes: RefCell<Vec<u8>>,
+    alloc: Global,
+    inputs: RefCell<Vec<FirstBytes>>,
+    room: Cell<usize>,
 }
 
 impl Begin {
     /// Begins with no input.
     pub fn new(alloc: Global) -> Begin {
         Begin {
-            kept: Cell::new(None),
-            bytes: RefCell::new(Vec::new(alloc)),
+            alloc,
+            inputs: RefCell::new(Vec::new(alloc)),
+            room: Cell::new(MOST),
         }
     }
 
-    /// Keeps `bytes` as far as there is room and memory, and says whether that is all of them.
-    fn push(&self, bytes: &[u8]) -> bool {
-        let Ok(mut kept) = self.bytes.try_borrow_mut() else {
-            return false;
-        };
-        let room = MOST.saturating_sub(kept.len());
-        let first = bytes.get(..room).unwrap_or(bytes);
-        kept.extend_from_slice(first).is_ok() && first.len() == bytes.len()
-    }
-
-    /// Takes the next `bytes` of the input `number`, where it is the one that is kept.
+    /// Takes the next `bytes` of the input `number`. None are its end.
     pub fn add(&self, number: u64, bytes: &[u8]) {
-        if bytes.is_empty() {
+        let Ok(mut inputs) = self.inputs.try_borrow_mut() else {
+            return;
+        };
+        if push_input(self.alloc, &mut inputs, number).is_err() {
             return;
         }
-        let kept = self.kept.get().unwrap_or(Kept {
-            number,
-            is_whole: true,
-        });
-        if kept.number == number && kept.is_whole {
-            let is_whole = self.push(bytes);
-            self.kept.set(Some(Kept { number, is_whole }));
+        if let Some(input) = inputs.last_mut() {
+            self.room.set(input.add(bytes, self.room.get()));
         }
     }
 
-    /// Gives the bytes that are kept of the input `number`.
-    pub fn bytes_of(&self, number: u64) -> Option<Ref<'_, Vec<u8>>> {
-        if self.kept.get()?.number != number {
-            return None;
+    /// Gives what is kept of the input `number`, if it was read.
+    pub fn of(&self, number: u64) -> Option<FirstBytes> {
+        match self.inputs.try_borrow() {
+            Ok(inputs) => copy_of(self.alloc, &inputs, number),
+            Err(_) => None,
         }
-        self.bytes.try_borrow().ok()
-    }
-
-    /// Whether all bytes that came of the input are kept.
-    pub fn is_whole(&self) -> bool {
-        self.kept.get().is_some_and(|kept| kept.is_whole)
     }
 }

@@ -1,7 +1,7 @@
 //! Whether texts that are read as records look like another format.
 
 use crate::last_record::{LastRecord, RecordSize};
-use crate::record_count::Form;
+use crate::record_count::{Form, RecordCount};
 use std::cell::Cell;
 
 /// Which bytes that part fields elsewhere a line has.
@@ -46,6 +46,8 @@ pub struct LongRecord {
 /// What was seen in texts. Lines are counted up to the first comma.
 #[derive(Clone, Copy)]
 pub struct FormatHints {
+    /// Whether a record was seen that is no header.
+    pub has_records: bool,
     has_comma: bool,
     lines: u64,
     objects: u64,
@@ -59,6 +61,7 @@ pub struct FormatHints {
 }
 
 pub const NOTHING: FormatHints = FormatHints {
+    has_records: false,
     has_comma: false,
     lines: 0,
     objects: 0,
@@ -134,6 +137,8 @@ pub struct Watch<'a> {
     looks_for_format: bool,
     line: Line,
     last: LastRecord,
+    /// The records of the text, up to the first that is no header.
+    count: RecordCount,
 }
 
 impl<'a> Watch<'a> {
@@ -151,7 +156,14 @@ impl<'a> Watch<'a> {
             looks_for_format,
             line: EMPTY,
             last: LastRecord::new(form.delimiter),
+            count: RecordCount::new(form.delimiter),
         }
+    }
+
+    /// Whether the text has a record that is no header, with `bytes`, which come next.
+    fn has_record(&mut self, bytes: &[u8]) -> bool {
+        self.count.add(bytes);
+        self.count.begun() > u64::from(self.form.has_header)
     }
 
     /// Takes `byte` into its line.
@@ -191,6 +203,7 @@ impl<'a> Watch<'a> {
     /// Takes the next `bytes`. None are the end.
     pub fn add(&mut self, bytes: &[u8]) {
         let mut hints = self.hints.get();
+        hints.has_records = hints.has_records || self.has_record(bytes);
         if self.looks_for_format && !hints.has_comma {
             hints.has_comma = bytes.contains(&b',');
         }
