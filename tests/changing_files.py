@@ -71,7 +71,7 @@ CHANGES = [
 HALF_A_LINE = Change("given half a line", lambda path: add(path, b"d,99"), keeps=True)
 
 # Records that end within quotes, and the rest of the last one.
-IN_QUOTES, REST_OF_QUOTES = HEAVY + b'"one\ntwo', b'\nthree",500\n'
+IN_QUOTES, REST_OF_QUOTES = HEAVY + b'"one\ntwo', b'\nthree",9000\n'
 QUOTES_CLOSED = Change("appended to within quotes", lambda path: add(path, REST_OF_QUOTES + LATER), grows=True)
 # More of the last record, which isn't whole then either.
 STILL_A_HALF = Change("given more of its last line", lambda path: add(path, b"0"))
@@ -197,7 +197,7 @@ class Changing(programs.Checks):
             self.check_change(command, IN_QUOTES, QUOTES_CLOSED, REST_OF_QUOTES)
         self.write(IN_QUOTES)
         said = self.run_on(["report", "--k", "50", str(self.path)], 1, QUOTES_CLOSED)[1]
-        self.check("a row of the whole record", said == (0, b'a,9000\nb,9000\n"one\ntwo\nthree",500\n', b""), said)
+        self.check("a row of the whole record", said == (0, b'a,9000\nb,9000\n"one\ntwo\nthree",9000\n', b""), said)
 
     def test_half_records(self) -> None:
         """A file whose last record isn't whole yet when the reader comes there is refused."""

@@ -414,8 +414,10 @@ class CommandLine(programs.Checks):
         self.refuses(["ask", b"\xff", "a"], "file 1: could not be read", 1)
         # inputs are opened before the numbers of options are tested
         for words in (["report", "--k", "0"], ["report", "--workers", "0"], ["top", "--workers", "0", "1"]):
-            self.refuses([*words, "none"], "file 1: could not be read", 1)
-            self.check(f"{words} is refused", self.heavy([*words, "0.heavy"])[0] == 2)
+            found = self.heavy([*words, "none"])
+            unopened = (found[0], programs.first_line(found[2])) == (1, b"heavy: file 1: could not be read\n")
+            self.check(f"{words} of a file that isn't there", unopened, found)
+            self.check(f"{words} of one that is", self.heavy([*words, "0.heavy"])[0] == 2)
         for name in ("--k", "--help", "--progress"):
             for command in (["condense"], ["confirm"], ["merge", "0.heavy"]):
                 place = len(command)
