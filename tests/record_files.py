@@ -354,7 +354,7 @@ def some_bad_key(draw: Random) -> bytes | None:
     """What bad records count as, where they do: a new key, or one of the records."""
     if draw.random() < 0.7:
         return None
-    return draw.choice([b"", b"k" * 4097]) if draw.random() < 0.02 else draw.choice([b"bad", b"a", b"-", b"x y", b"\xff", b"k" * 4096])
+    return b"k" * 4097 if draw.random() < 0.02 else draw.choice([b"bad", b"a", b"-", b"x y", b"\xff", b"k" * 4096])
 
 
 def some_layout(draw: Random, names: list[bytes]) -> Layout:
