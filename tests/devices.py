@@ -24,6 +24,11 @@ NOT_WRITTEN = (1, b"", b"heavy: output could not be written\n")
 NO_MEMORY = (4, b"", b"heavy: out of memory\n")
 FILE_1 = (1, b"", b"heavy: file 1: could not be read\n")
 
+# The stack that is said to be enough, in KiB; and what takes most of it: objects within an object, and a plan of many pieces.
+STACK = 512
+NESTED = b'{"x":' + b'{"a":' * 127 + b"1" + b"}" * 127 + b',"a":"z","n":7}\n'
+CHAIN = ["--pieces", "1024", "--tree", "chain"]
+
 
 def said(ended: programs.Ended) -> tuple[int, bytes, bytes]:
     return ended.status, ended.out, programs.first_line(ended.err)
@@ -202,6 +207,26 @@ class Devices(programs.Checks):
         for before, status in (("", -signal.SIGXFSZ), ("trap '' XFSZ; ", 1)):
             ended = programs.run(["sh", "-c", f'{before}ulimit -f 0; exec "$@"', "", self.program, *REPORT], RECORDS)
             self.check(f"a limit on files, {before}", (ended.status, ended.out) == (status, b""), ended)
+
+    def test_small_stacks(self) -> None:
+        """Each command in a stack of 512 KiB: a report of objects that nest as deep as they may, and by a plan that is a
+        chain, too."""
+        path = f"{self.room}/records"
+        Path(path).write_bytes(b"a,5\nb,3\n" + b"".join(b"%d\n" % number for number in range(2_000)))
+        for words, given, rows in [
+            (["report", "--k", "500", path], b"", b"a,5\n"), (["top", "2", path], b"", b"a,5\nb,3\n"),
+            (["report", "--k", "500", *CHAIN, path], b"", b"a,5\n"),
+            (["report", "--json", "--key", "a", "--weight", "n"], NESTED, b"z,7\n"),
+            (["report", "--k", "2", "--explain", "--output", "tsv"], b'"a",5\n', b"a\t5\n"), (["report", "--squeeze", "--key", "2"], b" a  b \n", b"b,1\n"),
+            (["confirm", self.summary], RECORDS, b"a,6\n"), (["condense", self.summary], RECORDS, b"a,6\nb,3\nothers,2\n"),
+            (["ask", self.summary, "a"], b"", b"a,4,6\n"), (["list", self.summary], b"", b"a,4,6\nb,1,3\n"),
+        ]:
+            found = shell(f'ulimit -Ss {STACK}; exec "$@"', [self.program, *words], given)
+            self.check(f"{words[0]} in {STACK} KiB of stack", found == (0, rows, b""), found)
+        made = [self.program, "summarise", "--k", "2"], [self.program, "merge", self.summary], [self.program, "table", "--width", "9"]
+        for words in made:
+            found = shell(f'ulimit -Ss {STACK}; exec "$@"', words)
+            self.check(f"{words[1]} in {STACK} KiB of stack", found == said(programs.run(words, RECORDS)) and not found[0], found)
 
     def test_unread_files(self) -> None:
         """A damaged saved file and one that can't be read: the latter is told, since all are read before the first is judged."""
