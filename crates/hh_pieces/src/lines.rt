@@ -2,10 +2,10 @@
 //! its fields are what stands between separators.
 
 ghost use Rattle.std.specs.Bool.{OnTrue};
-ghost use Rattle.std.specs.Prelude.{◌≡◌, ◌≤◌, ◌==◌, false, IfErr, OnOk, Ok, Some, length, map, option_map, true};
+ghost use Rattle.std.specs.Prelude.{◌≡◌, ◌≤◌, IfErr, OnOk, Ok, Some, length, map, option_map, slice_range, true};
 ghost use Rattle.hh_stream.specs.Weights.{max_total};
 ghost use Rattle.hh_stream.specs.Taking.{Takes};
-ghost use Rattle.hh_records.specs.Layouts.{RecordRefused, RowsRefused, adds, items_after};
+ghost use Rattle.hh_records.specs.Layouts.{RowsRefused, items_after};
 ghost use Rattle.hh_pieces.specs.Lines as spec;
 ghost use Rattle.hh_pieces.specs.Lines.{HasNoReturn, IsUnquoted, filled_lines, parts_in_line};
 
@@ -116,109 +116,29 @@ fn line_parts(line: &[u8], separator: Option<u8>) -> Option<(&[u8], Option<&[u8]
     }
 }
 
-/// Hands on what the record of a line adds, which has this `number`.
-fn take_line<T: TakeItems>(
-    alloc: Global,
-    taker: &mut T,
-    line: &[u8],
-    separator: Option<u8>,
-    number: u64,
-    bad: &mut u64,
-    layout: &Layout,
-) -> Result<(), TextError>
-    requires bounded { T.weight_taken taker.old ≤ max_total }
-    ensures taken { OnOk result
-        (Takes T.with_item T.weight_taken taker.old taker.new (λ xs.
-        adds layout.now (T.weight_taken taker.old)
-        (parts_in_line separator line.now) ≡ Ok xs)) }
-    ensures bounded { OnOk result (T.weight_taken taker.new ≤ max_total) }
-    ensures refused { IfErr result (RecordRefused number
-        (adds layout.now (T.weight_taken taker.old) (parts_in_line separator line.now))) }
-{
-    take_parts(
-        alloc,
-        taker,
-        number,
-        line_parts(line, separator),
-        bad,
-        layout,
-    )
-}
-
-/// Hands on what each line of any text adds, as [`read_lines`] does.
-fn read_any_lines<T: TakeItems>(
-    alloc: Global,
+/// Finds the key and the weight's field of the line that begins at `from`, and where it ends. It is
+/// cut at `separator`. A text that `has_no_return` is looked at once.
+fn parts_from(
     text: &[u8],
+    from: usize,
     separator: Option<u8>,
-    taker: &mut T,
-    bad: &mut u64,
-    layout: &Layout,
-) -> Result<(), TextError>
-    requires bounded { T.weight_taken taker.old ≤ max_total }
-    ensures items { OnOk result
-        (Takes T.with_item T.weight_taken taker.old taker.new (λ xs.
-        items_after layout.now 1 (T.weight_taken taker.old)
-        (map (parts_in_line separator) (filled_lines text.now)) ≡ Ok xs)) }
-    ensures bounded { OnOk result (T.weight_taken taker.new ≤ max_total) }
-    ensures refused { IfErr result (λ error.
-        RowsRefused layout.now 0 (T.weight_taken taker.old)
-        (Some (map (parts_in_line separator) (filled_lines text.now))) error) }
+    has_no_return: bool,
+) -> (Option<(&[u8], Option<&[u8]>)>, usize)
+    requires within { from ≤ length text.now }
+    requires no_return { OnTrue has_no_return (HasNoReturn text.now) }
+    ensures end { result.1 ≡ spec.line_end text.now from }
+    ensures after { from ≤ result.1 }
+    ensures within { result.1 ≤ length text.now }
+    ensures parts { option_map (λ parts. (parts.0.now, option_map (λ field. field.now) parts.1))
+        result.0 ≡ parts_in_line separator (slice_range text.now from result.1) }
 {
-    let has_no_return = has_no_return(text);
-    let mut from = 0;
-    let mut number = 0;
-    while from < text.len() {
-        let end = line_end(text, from, has_no_return);
-        if from < end {
-            number += 1;
-            take_line(
-                alloc,
-                taker,
-                &text[from..end],
-                separator,
-                number,
-                bad,
-                layout,
-            )?;
+    match separator {
+        Some(delimiter) if has_no_return && delimiter != b'\n' => line_at(text, from, delimiter),
+        _ => {
+            let end = line_end(text, from, has_no_return);
+            (line_parts(&text[from..end], separator), end)
         }
-        from = end + 1;
     }
-    Ok(())
-}
-
-/// Hands on what each line of a text without CR adds that is cut at `delimiter`, as [`read_lines`]
-/// does. Each byte is looked at once.
-fn read_feed_lines<T: TakeItems>(
-    alloc: Global,
-    text: &[u8],
-    delimiter: u8,
-    taker: &mut T,
-    bad: &mut u64,
-    layout: &Layout,
-) -> Result<(), TextError>
-    requires no_return { HasNoReturn text.now }
-    requires apart { (delimiter == 10) ≡ false }
-    requires bounded { T.weight_taken taker.old ≤ max_total }
-    ensures items { OnOk result
-        (Takes T.with_item T.weight_taken taker.old taker.new (λ xs.
-        items_after layout.now 1 (T.weight_taken taker.old)
-        (map (parts_in_line (Some delimiter)) (filled_lines text.now)) ≡ Ok xs)) }
-    ensures bounded { OnOk result (T.weight_taken taker.new ≤ max_total) }
-    ensures refused { IfErr result (λ error.
-        RowsRefused layout.now 0 (T.weight_taken taker.old)
-        (Some (map (parts_in_line (Some delimiter)) (filled_lines text.now))) error) }
-{
-    let mut from = 0;
-    let mut number = 0;
-    while from < text.len() {
-        let (parts, end) = line_at(text, from, delimiter);
-        if from < end {
-            number += 1;
-            take_parts(alloc, taker, number, parts, bad, layout)?;
-        }
-        from = end + 1;
-    }
-    Ok(())
 }
 
 /// Hands on what each line of a text adds, blank ones aside, where a line is cut into fields at
@@ -241,10 +161,16 @@ pub(crate) fn read_lines<T: TakeItems>(
         RowsRefused layout.now 0 (T.weight_taken taker.old)
         (Some (map (parts_in_line separator) (filled_lines text.now))) error) }
 {
-    if let Some(delimiter) = separator {
-        if delimiter != b'\n' && has_no_return(text) {
-            return read_feed_lines(alloc, text, delimiter, taker, bad, layout);
+    let has_no_return = has_no_return(text);
+    let mut from = 0;
+    let mut number = 0;
+    while from < text.len() {
+        let (parts, end) = parts_from(text, from, separator, has_no_return);
+        if from < end {
+            number += 1;
+            take_parts(alloc, taker, number, parts, bad, layout)?;
         }
+        from = end + 1;
     }
-    read_any_lines(alloc, text, separator, taker, bad, layout)
+    Ok(())
 }
