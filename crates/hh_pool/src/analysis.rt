@@ -197,7 +197,11 @@ fn merge_pieces<R: Threads + Wait + Sync, P: Pieces + Sync, G: Gate + Sync>(
 
 /// Refuses another total than the first pass had, where anything was counted. Only pieces that
 /// changed between the passes come to this.
-fn check_totals(candidates: &Candidates, counted: u64, total: u64) -> Result<(), PieceFault>
+pub(crate) fn check_totals(
+    candidates: &Candidates,
+    counted: u64,
+    total: u64,
+) -> Result<(), PieceFault>
     ensures same { OnOk result (0 < length candidates.now → counted ≡ total) }
     ensures differs { IsErr result → (0 < length candidates.now) × (counted ≢ total) }
     ensures refused { IsErr result → result ≡ Err PieceFault.Refused }
@@ -210,7 +214,7 @@ fn check_totals(candidates: &Candidates, counted: u64, total: u64) -> Result<(),
 
 /// Those of the candidates that are above the options' threshold, by a second pass. The total is
 /// that of the first.
-pub(crate) fn heavy_among<R: Threads + Wait + Sync, P: Pieces + Sync, G: Gate + Sync>(
+fn heavy_among<R: Threads + Wait + Sync, P: Pieces + Sync, G: Gate + Sync>(
     rt: &R,
     alloc: Global,
     pieces: &P,

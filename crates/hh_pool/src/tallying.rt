@@ -1,22 +1,23 @@
 //! A tally of pieces of any kind, and a report of them: each worker tallies the items of its
-//! pieces, and the tallies add up. Where any was lost, a second pass of a report counts the keys
-//! that can be heavy.
+//! pieces, and the tallies add up. Where the tally isn't sure of a key that can be heavy, a second
+//! pass of a report counts such keys.
 
-ghost use Rattle.std.specs.Prelude.{◌≡◌, ◌+◌, ◌*◌, ◌<◌, ◌≤◌, ◌⊎◌, true, length, zip};
+ghost use Rattle.std.specs.Prelude.{◌≡◌, ◌+◌, ◌*◌, ◌<◌, ◌≤◌, ◌⊎◌, true, length};
 ghost use Rattle.std.specs.Prelude.{IfOk, IsErr, IsErrOf, OnOk};
-ghost use Rattle.std.specs.Map.{keys_of, values_of};
+ghost use Rattle.std.specs.List.Sorted.{IsStrictlySortedBy};
+ghost use Rattle.std.specs.Map.{keys_of};
 ghost use Rattle.hh_stream.specs.Ranges.{in_range};
-ghost use Rattle.hh_stream.specs.Weights.{max_total, total_of};
+ghost use Rattle.hh_stream.specs.Weights.{key_cmp, max_total, total_of};
 ghost use Rattle.hh_stream.specs.Cuttings.{max_pieces, whole_of};
 ghost use Rattle.hh_summaries.specs.Counters.{max_k};
-ghost use Rattle.hh_summaries.specs.Report.{heavy, rows_above};
+ghost use Rattle.hh_summaries.specs.Report.{heavy, weights_at};
 ghost use Rattle.hh_tally.specs.Tallies.{AreBounds, IsRoom};
 ghost use Rattle.hh_pool.specs.Passes.{AreRead, MayRefuse};
 ghost use Rattle.hh_pool.specs.Tallied.{BoundsSome, IsTallied};
 ghost use Rattle.hh_workers.specs.Pieces.{piece_of};
 ghost use Rattle.hh_workers.specs.Workers.{max_workers};
 
-use crate::analysis::heavy_among;
+use crate::analysis::{check_totals, weigh};
 use crate::first::sum_of_totals;
 use crate::options::Options;
 use hh_counters::{Candidates, Heavy};
@@ -167,33 +168,39 @@ pub fn tally_pieces<R: Threads + Wait + Sync, P: Pieces + Sync>(
     found_or_made(&pass, found, workers)
 }
 
-/// The counters of the contenders, in their order.
-fn counters_of(alloc: Global, contenders: &[(Key, u64)]) -> Result<Vec<u64>, AllocError>
-    ensures { IfOk result (λ numbers. numbers.items ≡ values_of contenders.now) }
-{
-    contenders.iter().map(|entry| entry.1).collect(alloc)
-}
-
-/// Gives the `candidates` whose counters are above the options' threshold of `total`, by falling
-/// counter and then by rising key. They are the keys of the `contenders`.
-fn rows_by_counters(
+/// The weights of the `contenders` of a `tally` of all pieces: a pass over these counts those of
+/// which it isn't sure, if there are any.
+fn weigh_contenders<R: Threads + Wait + Sync, P: Pieces + Sync>(
+    rt: &R,
     alloc: Global,
+    pieces: &P,
+    tally: &Tally,
     contenders: &[(Key, u64)],
-    candidates: &Candidates,
-    total: u64,
-    options: &Options,
-) -> Result<Vec<Heavy>, AllocError>
-    requires { candidates.now ≡ keys_of contenders.now }
-    ensures { let options = options.now in IfOk result (λ rows. rows.items
-        ≡ rows_above options.p options.q total (zip candidates.now (values_of contenders.now))) }
+    hash: KeyHash,
+    workers: u64,
+) -> Result<Vec<u64>, PieceFault>
+    requires some { 0 < length (P.pieces pieces.now) }
+    requires few { length (P.pieces pieces.now) ≤ max_pieces }
+    requires rising { IsStrictlySortedBy key_cmp (keys_of contenders.now) }
+    requires few_keys { length contenders.now ≤ max_k }
+    requires workers { in_range workers max_workers ≡ true }
+    requires bounds { P.known pieces.now
+        → AreBounds tally.now (whole_of (P.pieces pieces.now)) }
+    ensures count { IfOk result (λ weights. length weights.items ≡ length contenders.now) }
+    ensures weights { IfOk result (λ weights. P.known pieces.now → weights.items
+        ≡ weights_at (keys_of contenders.now) (whole_of (P.pieces pieces.now))) }
+    ensures refused { IsErrOf result PieceFault.Refused → P.known pieces.now
+        → MayRefuse (P.refuses pieces.now) (P.pieces pieces.now) }
 {
-    let (p, q) = options.threshold();
-    candidates.select(&counters_of(alloc, contenders)?, total, p, q)
+    let unsure = tally.unsure(alloc, contenders)?;
+    let candidates = Candidates::of_entries(alloc, &unsure, hash)?;
+    let (counted, total) = weigh(rt, alloc, pieces, &OpenGate, &candidates, workers)?;
+    check_totals(&candidates, total, tally.total())?;
+    Ok(tally.weights(alloc, contenders, &counted)?)
 }
 
 /// Gives the keys that weigh more than the options' threshold of the total of `tally`, which is one
-/// of all pieces, with their weights, by falling weight and then by rising key. If `tally` lost
-/// nothing, its counters are the weights. Else a second pass counts them.
+/// of all pieces, with their weights, by falling weight and then by rising key.
 fn heavy_by<R: Threads + Wait + Sync, P: Pieces + Sync>(
     rt: &R,
     alloc: Global,
@@ -216,12 +223,10 @@ fn heavy_by<R: Threads + Wait + Sync, P: Pieces + Sync>(
 {
     let (p, q) = options.threshold();
     let contenders = tally.contenders(alloc, p, q)?;
+    let workers = options.workers();
+    let weights = weigh_contenders(rt, alloc, pieces, tally, &contenders, hash, workers)?;
     let candidates = Candidates::of_entries(alloc, &contenders, hash)?;
-    let total = tally.total();
-    if tally.is_exact() {
-        return Ok(rows_by_counters(alloc, &contenders, &candidates, total, options)?);
-    }
-    heavy_among(rt, alloc, pieces, &OpenGate, &candidates, total, options)
+    Ok(candidates.select(&weights, tally.total(), p, q)?)
 }
 
 /// The total of the items of all pieces, and the keys that weigh more than the options' threshold
@@ -229,9 +234,10 @@ fn heavy_by<R: Threads + Wait + Sync, P: Pieces + Sync>(
 /// family are not used.
 ///
 /// Each worker tallies the items of the pieces that it claims, and the tallies add up (Misra and
-/// Gries 1982, in batches as Anderson et al. 2017). Where nothing was lost the counters are the
-/// weights. Where something was, each piece is asked for once more, and the keys that can be heavy
-/// are counted. `hash` decides how fast keys are found, and nothing else.
+/// Gries 1982, in batches as Anderson et al. 2017). The weight of a key that has had a counter since
+/// before anything was lost is known then: all that was lost is what the counter lacks. Where
+/// another key can be heavy, each piece is asked for once more, and such keys are counted. `hash`
+/// decides how fast keys are found, and nothing else.
 ///
 /// It starts the workers, numbered from 0, in threads of their own, and waits for them. It answers
 /// Refused where a piece was refused, or the weights of all pieces add up to more than

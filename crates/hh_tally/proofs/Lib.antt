@@ -1,5 +1,7 @@
 pub mod Raising
+pub mod Sure
 pub mod Bounds
 pub mod Keeping
 pub mod Sorting
 pub mod Reporting
+pub mod Counted

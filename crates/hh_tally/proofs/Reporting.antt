@@ -67,24 +67,6 @@ module _ (t : TallyView) (p q : ℕ) (loss : IsLoss t.room.few t.total t.lost t.
     contenders_report = report_with_counters (contenders_of p q t) xs p q contenders_are_counters
         ∙ filter_all (has_counter (contenders_of p q t)) (heavy xs p q) contends
 
--- entries with the keys' weights have them as their numbers
-values_are_weights : (es xs : List Entry) → ((e : Entry) → Contains es e → e.1 ≡ weight_of e.0 xs)
-    → values_of es ≡ weights_at (keys_of es) xs
-values_are_weights [] xs h = refl
-values_are_weights (e ∷ es) xs h =
-    let first = h e (0, omega arith, refl) in
-    let rest = values_are_weights es xs (λ d j. h d (suc j.0, omega (arith, j.1), j.2)) in
-    λ i. first i ∷ rest i
-
--- so have the contenders, where nothing was lost
-pub contenders_exact : (t : TallyView) (xs : List Entry) (p q : ℕ) → AreBounds t xs → t.lost ≡ 0
-    → values_of (contenders_of p q t) ≡ weights_at (keys_of (contenders_of p q t)) xs
-contenders_exact t xs p q h none =
-    let rises = rising-tally t.counters in
-    values_are_weights (contenders_of p q t) xs (λ e i.
-    sym (number_from_in e (tally t.counters) rises (in_filter (can_exceed p q t) e (tally t.counters) i).0)
-    ∙ weight_of-tally e.0 t.counters ∙ exact_weights t xs h none e.0)
-
 -- ---- how many there are
 -- half of a few times what a contender has, with what it may lack, is more than the total
 reaches : (p q h n m : ℕ) → q ≤ p * h → p * n < q * m → n < h * m
@@ -171,7 +153,6 @@ pub record AreContenders (t : TallyView) (p q : ℕ) (es : List Entry) : Type 0 
   pub few : length es < t.room.few / 2
   pub report : (xs : List Entry) → AreBounds t xs
       → rows_above p q (total_of xs) (zip (keys_of es) (weights_at (keys_of es) xs)) ≡ heavy xs p q
-  pub exact : (xs : List Entry) → AreBounds t xs → t.lost ≡ 0 → values_of es ≡ weights_at (keys_of es) xs
 
 pub found_contenders : (t : TallyView) (p q n : ℕ) (es : List Entry) → 2 ≤ t.room.few
     → IsLoss t.room.few t.total t.lost t.counters → AllByRecursion (λ (e : Entry). 0 < e.1) t.counters
@@ -185,12 +166,11 @@ found_contenders t p q n es some loss positive le agrees is =
       rising = (contenders_are_counters t p q loss positive le).rising;
       few = few_contend t p q some loss le;
       report = contenders_report t p q loss positive le;
-      exact = λ xs h none. contenders_exact t xs p q h none;
     })
 
 -- the same of what a tally with these parts finds
-pub tally_contends : {room : Room} {total lost bytes : ℕ} {all : List Entry} (t : TallyView) (p q n : ℕ) (es : List Entry)
-    → IsTally room total lost bytes all → record { room = room; total = total; lost = lost; counters = all } ≡ t
+pub tally_contends : {room : Room} {total lost bytes : ℕ} {all : List Entry} {sure : List Bool} (t : TallyView) (p q n : ℕ) (es : List Entry)
+    → IsTally room total lost bytes all → record { room = room; total = total; lost = lost; counters = all; sure = sure } ≡ t
     → q ≤ p * (t.room.few / 2)
     → ((m : ℕ) → 0 < m → nat_lt n m ≡ nat_lt (p * total) (q * (m + lost)))
     → es ≡ filter (exceeds n) (tally all) → AreContenders t p q es

@@ -6,6 +6,7 @@ pub mod laws;
 mod lowering;
 mod room;
 mod tally;
+mod weighing;
 
 pub use room::{MAX_KEYS, Room};
 pub use tally::Tally;

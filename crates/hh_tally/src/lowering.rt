@@ -1,12 +1,12 @@
 //! Counters in an index, raised and lowered.
 
-ghost use Rattle.std.specs.Prelude.{◌≡◌, ◌+◌, ◌-◌, ◌*◌, ◌<◌, ◌≤◌, ◌^◌, ◌/◌, ◌&&◌, ◌||◌, cond, ◌++◌, ◌∷◌, [], fold, filter, length, nat_lt, false, IfOk, OnOk, OnErr, IsTrue};
+ghost use Rattle.std.specs.Prelude.{◌≡◌, ℕ, Bool, get_or, map, ◌+◌, ◌-◌, ◌*◌, ◌<◌, ◌≤◌, ◌^◌, ◌/◌, ◌&&◌, ◌||◌, cond, ◌++◌, ◌∷◌, [], fold, filter, length, max, nat_lt, false, IfOk, OnOk, OnErr, IsTrue};
 ghost use Rattle.std.specs.List.{AllByRecursion, IsDistinct};
 ghost use Rattle.std.specs.Map.{keys_of};
 ghost use Rattle.indexmap.specs.IndexMap.{with_value_at};
-ghost use Rattle.hh_stream.specs.Weights.{Entry, max_key_len, same_key, total_of};
+ghost use Rattle.hh_stream.specs.Weights.{Bytes, Entry, max_key_len, same_key, total_of};
 ghost use Rattle.hh_summaries.specs.Counters.{exceeds, level, lower, over, tally};
-ghost use Rattle.hh_tally.specs.Tallies.{add_in, bytes_of, loss_of, left_of, most_left, are_large, is_over};
+ghost use Rattle.hh_tally.specs.Tallies.{AreFlags, filled, add_in, bytes_of, loss_of, left_of, most_left, are_large, is_over};
 
 use crate::room::Room;
 use hh_stream::{BorrowedKey, Key, KeyHash};
@@ -72,10 +72,14 @@ pub fn add_all(
 
 /// Lowers all counters if there are more keys than `room` has, or too many bytes of keys, which
 /// together have `bytes`. It gives what was taken from each counter, 0 if there is room, and how
-/// many bytes the keys that are left have. After an error `index` is as it was.
+/// many bytes the keys that are left have. `sure` are flags of the first keys, and `rest` is that of
+/// the others; the keys that are left keep theirs. After an error `index` and `sure` are as they
+/// were.
 pub fn lower_if_over(
     alloc: Global,
     index: &mut IndexMap<Key, u64, KeyHash>,
+    sure: &mut Vec<bool>,
+    rest: bool,
     room: &Room,
     bytes: usize,
 ) -> Result<(u64, usize), AllocError>
@@ -86,13 +90,21 @@ pub fn lower_if_over(
     ensures left { OnOk result (index.new.entries ≡ left_of room.now index.old.entries) }
     ensures bytes { IfOk result (λ r. r.1 ≡ bytes_of (keys_of index.new.entries)) }
     ensures bounded { IfOk result (λ r. r.1 ≤ 4096 * length index.new.entries) }
+    ensures flags { let keys = keys_of index.new.entries in IfOk result (λ r. (test : Bytes → Bool)
+        → AreFlags sure.old.items rest (keys_of index.old.entries) test
+        → (later : Bool) → (r.0 ≡ 0 → later ≡ rest) → AreFlags sure.new.items later keys test) }
+    ensures few_flags { OnOk result (length sure.old.items ≤ length index.old.entries
+        → length sure.new.items ≤ length index.new.entries) }
     ensures unchanged { OnErr result (index.new.entries ≡ index.old.entries) }
+    ensures same_flags { OnErr result (sure.new.items ≡ sure.old.items) }
 {
     let large = are_large(room, index, bytes);
     if !is_over(room, index, large) {
         return Ok((0, bytes));
     }
     let lost = level_in(alloc, index, most_left(room, large))?;
+    let kept = flags_above(alloc, index, sure, rest, lost)?;
+    *sure = kept;
     lower_all(index, lost);
     Ok((lost, key_bytes(index)))
 }
@@ -115,9 +127,11 @@ fn is_over(room: &Room, index: &IndexMap<Key, u64, KeyHash>, large: bool) -> boo
 
 // The most keys that then stay.
 fn most_left(room: &Room, large: bool) -> usize
-    ensures { result ≡ cond large (room.now.few / 2) (room.now.keys / 2) }
+    ensures { result ≡ cond large (room.now.few / 2)
+        (max (room.now.few / 2) (room.now.keys / 4)) }
 {
-    if large { room.few / 2 } else { room.keys / 2 }
+    let few = room.few / 2;
+    if large { few } else { few.max(room.keys / 4) }
 }
 
 /// The least number that at most `most` counters exceed.
@@ -130,6 +144,43 @@ pub fn level_in(
 {
     let mut numbers: Vec<u64> = index.values().copied().collect(alloc)?;
     Ok(level_of(&mut numbers, most))
+}
+
+/// Gives the flag of the key at `place`: `sure` are those of the first keys, and `rest` is that of the
+/// others.
+pub fn flag_at(sure: &[bool], rest: bool, place: usize) -> bool
+    ensures { (n : ℕ) → place < n → result ≡ get_or (filled sure.now rest n) place false }
+{
+    if place < sure.len() {
+        sure[place]
+    } else {
+        rest
+    }
+}
+
+// The flags of the keys whose counter is above `t`: `sure` are those of the first keys, and `rest` is
+// that of the others.
+fn flags_above(
+    alloc: Global,
+    index: &IndexMap<Key, u64, KeyHash>,
+    sure: &[bool],
+    rest: bool,
+    t: u64,
+) -> Result<Vec<bool>, AllocError>
+    ensures flags { let es = index.now.entries in IfOk result (λ kept. (test : Bytes → Bool)
+        → AreFlags sure.now rest (keys_of es) test → kept.items ≡ map test (keys_of (lower t es))) }
+    ensures few { let es = index.now.entries in
+        IfOk result (λ kept. length kept.items ≡ length (lower t es)) }
+{
+    let mut kept = Vec::new(alloc);
+    for i in 0..index.len() {
+        if let Some((_, counter)) = index.get_index(i) {
+            if *counter > t {
+                kept.push(flag_at(sure, rest, i))?;
+            }
+        }
+    }
+    Ok(kept)
 }
 
 // Takes `t` from each counter, and drops those that are not above it.

@@ -1,16 +1,19 @@
 //! Sums of weights by key, lowered in batches.
 
-ghost use Rattle.std.specs.Prelude.{◌≡◌, ℕ, ◌+◌, ◌*◌, ◌/◌, ◌<◌, ◌≤◌, ◌↔◌, List, IfOk, IsTrue, filter, length, nat_lt, true, zip};
+ghost use Rattle.std.specs.Prelude.{◌≡◌, ℕ, ◌+◌, ◌*◌, ◌/◌, ◌<◌, ◌≤◌, ◌↔◌, ◌&&◌, Bool, List, IfOk, IfSome, IsTrue, MatchOption, filter, length, map, nat_lt, false, true, zip};
 ghost use Rattle.std.specs.List.{AllByRecursion, IsDistinct};
 ghost use Rattle.std.specs.List.Sorted.{IsStrictlySortedBy};
-ghost use Rattle.std.specs.Map.{keys_of, values_of};
+ghost use Rattle.std.specs.Map.{keys_of};
 ghost use Rattle.hh_stream.specs.Ranges.{in_range};
-ghost use Rattle.hh_stream.specs.Weights.{Entry, key_cmp, max_total, same_key, total_of};
+ghost use Rattle.hh_stream.specs.Weights.{Bytes, Entry, key_cmp, max_total, same_key, total_of, weight_of};
 ghost use Rattle.hh_summaries.specs.Counters.{IsHonest, Fits, exceeds, level, lower, max_k, over, tally};
 ghost use Rattle.hh_summaries.specs.Report.{IsShare, heavy, rows_above, weights_at};
-ghost use Rattle.hh_tally.specs.Tallies.{AreBounds, IsLoss, IsRoom, contenders_of, empty_tally, merged_tally, pruned, tally_with};
+ghost use Rattle.hh_tally.specs.Tallies.{AreBounds, AreFlags, IsLoss, IsRoom, and_sure, is_sure};
+ghost use Rattle.hh_tally.specs.Tallies.{contenders_of, empty_tally, merged_tally, pruned, tally_with};
 
-use crate::lowering::{add_all, add_entry, key_bytes, level_in, lower_if_over, sorted_above};
+use crate::lowering::{
+    add_all, add_entry, flag_at, key_bytes, level_in, lower_if_over, sorted_above,
+};
 use crate::room::Room;
 use hh_stream::{Key, KeyHash, TakeItems};
 use hh_summaries::{Summary, cut};
@@ -25,19 +28,23 @@ use std::marker::Model;
 ///
 /// A key's counter is never above its weight, and at most [`lost`](Tally::lost) below it. An item
 /// costs one look-up by hash. A newcomer's key is copied once, and each lowering, which walks over
-/// all counters, follows as many newcomers as half the room. A contract sees the room, the total,
-/// what was lost, and the counters in the order in which their keys came.
+/// all counters, follows as many newcomers as half the room or more. A contract sees the room, the
+/// total, what was lost, and the counters in the order in which their keys came.
 #[derive(Debug, Drop)]
 pub struct Tally {
     room: Room,
     total: u64,
     lost: u64,
     bytes: usize,
+    // Whether the tally is sure of each of the first keys; of the others it is while nothing is
+    // lost.
+    sure: Vec<bool>,
     index: IndexMap<Key, u64, KeyHash>,
 }
 
 impl Model for Tally {
-    ghost use Rattle.hh_tally.specs.Tallies.{TallyView, IsTally};
+    ghost use Rattle.std.specs.Prelude.{◌==◌, ◌≤◌, length};
+    ghost use Rattle.hh_tally.specs.Tallies.{TallyView, IsTally, filled};
 
     ghost Value = { TallyView };
 
@@ -46,9 +53,11 @@ impl Model for Tally {
       total = t.total;
       lost = t.lost;
       counters = t.index.entries;
+      sure = filled t.sure.items (t.lost == 0) (length t.index.entries);
     } };
 
-    ghost invariant = { λ t. IsTally t.room t.total t.lost t.bytes t.index.entries };
+    ghost invariant = { λ t. IsTally t.room t.total t.lost t.bytes t.index.entries
+        × (length t.sure.items ≤ length t.index.entries) };
 }
 
 // The most keys for which memory is taken at the start.
@@ -67,6 +76,7 @@ impl Tally {
             total: 0,
             lost: 0,
             bytes: 0,
+            sure: Vec::new(alloc),
             index,
         })
     }
@@ -114,12 +124,40 @@ impl Tally {
         sorted_above(alloc, &self.index, t)
     }
 
+    /// Whether the tally is sure of `key`, so that its counter lacks just what was lost: the key has
+    /// kept a counter since before anything was lost, or it never came and nothing was lost. Of a
+    /// merged tally, both were sure of it.
+    pub fn is_sure(&self, key: &Key) -> bool
+        ensures { result ≡ is_sure self.now key.now }
+    {
+        match self.index.get_index_of(key) {
+            Some(place) => flag_at(&self.sure, self.lost == 0, place),
+            None => self.lost == 0,
+        }
+    }
+
+    // The weight of `key`, if the tally is sure of it.
+    pub(crate) fn sure_weight(&self, key: &Key) -> Option<u64>
+        ensures sure { MatchOption result (is_sure self.now key.now ≡ false)
+            (λ _. is_sure self.now key.now ≡ true) }
+        ensures weight { (xs : List Entry) → AreBounds self.now xs
+            → IfSome result (λ weight. weight ≡ weight_of key.now xs) }
+    {
+        if !self.is_sure(key) {
+            return None;
+        }
+        match self.index.get(key) {
+            Some(counter) => Some(*counter + self.lost),
+            None => Some(self.lost),
+        }
+    }
+
     /// Gives the keys that can weigh more than p/q of the total, with their counters, by rising
     /// key. p/q is at most 1 and at least 1/h, where h is half of the room's `few`, rounded down,
     /// and q is at most 2^32.
     ///
-    /// Each key that weighs more is among them, so that counting these keys alone makes the report.
-    /// Where nothing was lost the counters are the weights.
+    /// Each key that weighs more is among them, so that their weights make the report. Those of
+    /// which the tally isn't sure ([`unsure`](Tally::unsure)) are to be counted.
     pub fn contenders(&self, alloc: Global, p: u64, q: u64) -> Result<Vec<(Key, u64)>, AllocError>
         requires share { IsShare p q }
         requires enough { q ≤ p * (self.now.room.few / 2) }
@@ -130,9 +168,6 @@ impl Tally {
         ensures report { (xs : List Entry) → AreBounds self.now xs
             → IfOk result (λ entries. let keys = keys_of entries.items in
             rows_above p q (total_of xs) (zip keys (weights_at keys xs)) ≡ heavy xs p q) }
-        ensures exact { (xs : List Entry) → AreBounds self.now xs → self.now.lost ≡ 0
-            → IfOk result (λ entries.
-            values_of entries.items ≡ weights_at (keys_of entries.items) xs) }
     {
         let t = least_reach(self.total, self.lost, p, q);
         let entries = sorted_above(alloc, &self.index, t)?;
@@ -158,16 +193,20 @@ impl Tally {
             total,
             lost,
             bytes: _,
+            sure,
             mut index,
         } = self;
         add_all(alloc, &mut index, &other.index)?;
+        let mut sure = sure_of_both(alloc, &index, &sure, lost == 0, other)?;
+        let lost = lost + other.lost;
         let bytes = key_bytes(&index);
-        let (more, bytes) = lower_if_over(alloc, &mut index, &room, bytes)?;
+        let (more, bytes) = lower_if_over(alloc, &mut index, &mut sure, lost == 0, &room, bytes)?;
         Ok(Tally {
             room,
             total: total + other.total,
-            lost: lost + other.lost + more,
+            lost: lost + more,
             bytes,
+            sure,
             index,
         })
     }
@@ -202,7 +241,15 @@ impl TakeItems for Tally {
             return Ok(());
         }
         let bytes = self.bytes + key.len();
-        match lower_if_over(alloc, &mut self.index, &self.room, bytes) {
+        let rest = self.lost == 0;
+        match lower_if_over(
+            alloc,
+            &mut self.index,
+            &mut self.sure,
+            rest,
+            &self.room,
+            bytes,
+        ) {
             Ok((lost, bytes)) => {
                 self.total += weight;
                 self.lost += lost;
@@ -215,6 +262,36 @@ impl TakeItems for Tally {
             }
         }
     }
+}
+
+// Whether one tally is sure of `key`, as its `flag` says, and the other one too.
+fn is_sure_too(flag: bool, other: &Tally, key: &Key) -> bool
+    ensures { result ≡ (flag && is_sure other.now key.now) }
+{
+    flag && other.is_sure(key)
+}
+
+// Whether two tallies are sure of each key of the `index` that has the counters of both: the other
+// one, and that of which `sure` and `rest` are the flags of these keys.
+fn sure_of_both(
+    alloc: Global,
+    index: &IndexMap<Key, u64, KeyHash>,
+    sure: &[bool],
+    rest: bool,
+    other: &Tally,
+) -> Result<Vec<bool>, AllocError>
+    ensures flags { let keys = keys_of index.now.entries in IfOk result (λ both.
+        (test : Bytes → Bool) → AreFlags sure.now rest keys test
+        → both.items ≡ map (and_sure test other.now) keys) }
+    ensures count { IfOk result (λ both. length both.items ≡ length index.now.entries) }
+{
+    let mut both = Vec::new(alloc);
+    for i in 0..index.len() {
+        if let Some((key, _)) = index.get_index(i) {
+            both.push(is_sure_too(flag_at(sure, rest, i), other, key))?;
+        }
+    }
+    Ok(both)
 }
 
 // The number that the counter of a key exceeds if the key can weigh more than p/q of the total.

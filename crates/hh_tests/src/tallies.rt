@@ -64,12 +64,27 @@ fn contenders_of(rt: &(impl Abort + AllocGlobal), tally: &Tally, room: Room) -> 
     contenders.expect(rt, "room")
 }
 
-// What was lost, how many counters there are, and these keys, as "lost 86, 2 counters: A 637 ".
+// The weights of the contenders, and 0 for those of which the tally isn't sure.
+fn weights_of(
+    rt: &(impl Abort + AllocGlobal),
+    tally: &Tally,
+    contenders: &[(Key, u64)],
+) -> Vec<u64> {
+    let unsure = tally.unsure(rt.alloc(), contenders).expect(rt, "room");
+    let counted = vec![in rt.alloc(); 0u64; unsure.len()].expect(rt, "room");
+    let weights = tally.weights(rt.alloc(), contenders, &counted);
+    weights.expect(rt, "room")
+}
+
+// What was lost, how many counters there are, and these keys, each with its counter and its weight,
+// or 0 where the tally isn't sure of it, as "lost 86, 2 counters: A 637 of 723 ".
 fn shown(rt: &(impl Abort + AllocGlobal), tally: &Tally, contenders: &[(Key, u64)]) -> String {
     let mut text = String::new(rt.alloc());
     write!(text, "lost {}, {} counters: ", tally.lost(), tally.len()).expect(rt, "room");
-    for (key, counter) in contenders {
+    let weights = weights_of(rt, tally, contenders);
+    for ((key, counter), weight) in contenders.iter().zip(&weights) {
         show_counter(rt, &mut text, key.bytes(), *counter);
+        write!(text, "of {weight} ").expect(rt, "room");
     }
     text
 }
@@ -86,12 +101,32 @@ fn assert_tally(rt: &(impl Abort + AllocGlobal), tally: &Tally, room: Room, expe
 const LITTLE_ROOM: [(usize, usize, usize, &str); 8] = [
     (2, 2, 1000, "lost 320, 1 counters: "),
     (3, 2, 1000, "lost 245, 1 counters: "),
-    (5, 4, 1000, "lost 86, 2 counters: A 637 "),
-    (10, 10, 1000, "lost 34, 4 counters: A 689 BC 211 "),
-    (16, 6, 20, "lost 61, 2 counters: A 662 "),
-    (50, 12, 60, "lost 21, 11 counters: A 702 BC 224 "),
-    (52, 52, 1000, "lost 4, 28 counters: A 719 BC 241 "),
-    (53, 53, 1000, "lost 0, 53 counters: A 723 BC 245 "),
+    (5, 4, 1000, "lost 86, 2 counters: A 637 of 723 "),
+    (
+        10,
+        10,
+        1000,
+        "lost 34, 4 counters: A 689 of 723 BC 211 of 245 ",
+    ),
+    (16, 6, 20, "lost 61, 2 counters: A 662 of 723 "),
+    (
+        50,
+        12,
+        60,
+        "lost 21, 11 counters: A 702 of 723 BC 224 of 245 ",
+    ),
+    (
+        52,
+        52,
+        1000,
+        "lost 4, 28 counters: A 719 of 723 BC 241 of 245 ",
+    ),
+    (
+        53,
+        53,
+        1000,
+        "lost 0, 53 counters: A 723 of 723 BC 245 of 245 ",
+    ),
 ];
 
 // The room is too small for what comes at nearly each newcomer, at times for its bytes, and in the
@@ -117,8 +152,8 @@ fn tally_of_all(rt: &(impl Abort + AllocGlobal), room: Room) -> Tally
 
 // How few of 60 keys and bytes have room, and what is lost and kept of 6,400 items.
 const MERGED: [(usize, &str); 2] = [
-    (6, "lost 237, 9 counters: A 7491 "),
-    (12, "lost 229, 9 counters: A 7499 BC 2379 "),
+    (6, "lost 237, 9 counters: A 7491 of 7728 "),
+    (12, "lost 229, 9 counters: A 7499 of 7728 BC 2379 of 2608 "),
 ];
 
 // Each of the 64 is lowered for the bytes of its keys, which are never too many by themselves.
@@ -127,5 +162,56 @@ fn merged_tallies_lose_as_computed(rt: HostRuntime) {
     for (few, expected) in &MERGED {
         let room = room_of(&rt, 60, *few, 60);
         assert_tally(&rt, &tally_of_all(&rt, room), room, expected);
+    }
+}
+
+// The tally of the items with these numbers.
+fn tally_of_numbers(rt: &(impl Abort + AllocGlobal), room: Room, numbers: &[usize]) -> Tally
+    requires { IsRoom room }
+{
+    let mut tally = Tally::new(rt.alloc(), room, KeyHash::fixed()).expect(rt, "room");
+    for number in numbers {
+        assert!(rt; *number <= 6400);
+        take_item(rt, &mut tally, *number);
+    }
+    tally
+}
+
+// A comes with a weight of 18 before five other keys, of which four are too many, or behind them; or
+// it comes with a weight of 1 before, loses its counter, and comes again.
+const EARLY: &[usize] = &[0, 1, 2, 5, 6, 7, 10, 11, 12, 4, 9, 14, 19, 24];
+
+const LATE: &[usize] = &[4, 9, 14, 19, 24, 0, 1, 2, 5, 6, 7, 10, 11, 12];
+
+const AGAIN: &[usize] = &[0, 4, 9, 14, 19, 24, 0, 1, 2, 5, 6, 7, 10, 11, 12];
+
+const ALONE: &[usize] = &[0, 1, 2, 5, 6, 7, 10, 11, 12];
+
+const FEW_OTHERS: &[usize] = &[4, 9];
+
+const OTHERS: &[usize] = &[4, 9, 14, 19, 24];
+
+// The items of two tallies with room for four keys, and what is known of A once they are merged.
+const SURE: [(&[usize], &[usize], &str); 9] = [
+    (EARLY, &[], "lost 2, 3 counters: A 16 of 18 "),
+    (LATE, &[], "lost 2, 2 counters: A 18 of 0 "),
+    (AGAIN, &[], "lost 2, 3 counters: A 18 of 0 "),
+    (EARLY, EARLY, "lost 4, 3 counters: A 32 of 36 "),
+    (EARLY, LATE, "lost 4, 3 counters: A 34 of 0 "),
+    (LATE, EARLY, "lost 4, 3 counters: A 34 of 0 "),
+    (ALONE, LATE, "lost 2, 2 counters: A 36 of 0 "),
+    (EARLY, FEW_OTHERS, "lost 3, 2 counters: A 15 of 18 "),
+    (EARLY, OTHERS, "lost 4, 3 counters: A 16 of 0 "),
+];
+
+// A tally is sure of a key that has kept its counter since before anything was lost, and of no
+// other.
+#[test]
+fn tallies_are_sure_of_early_keys(rt: HostRuntime) {
+    for (one, other, expected) in &SURE {
+        let room = room_of(&rt, 4, 4, 1000);
+        let first = tally_of_numbers(&rt, room, one);
+        let both = merged(&rt, first, &tally_of_numbers(&rt, room, other));
+        assert_tally(&rt, &both, room, expected);
     }
 }

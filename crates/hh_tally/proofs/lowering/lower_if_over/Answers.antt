@@ -1,4 +1,4 @@
-use Rattle.std.proofs.Common.{◌/◌, cond, length, sym, ap, ◌∙◌, arith}
+use Rattle.std.proofs.Common.{◌/◌, cond, length, max, sym, ap, ◌∙◌, arith}
 use Rattle.std.proofs.lemmas.List.Sums.{count_by-le-length}
 use Rattle.hh_summaries.specs.Counters.{exceeds, level, lower}
 use Rattle.hh_summaries.proofs.Level.{length-lower}
@@ -23,7 +23,7 @@ pub returns-clause-lost : goal.returns-clause-lost
 returns-clause-lost c =
     let room = c.args.room.now in
     let es = c.args.index.now.entries in
-    let most = c.most_left.ensures ∙ ap (λ b. cond b (room.few / 2) (room.keys / 2)) c.are_large-large.ensures in
+    let most = c.most_left.ensures ∙ ap (λ b. cond b (room.few / 2) (max (room.few / 2) (room.keys / 4))) c.are_large-large.ensures in
     c.in_ok-lost.ensures ∙ ap (level es) most ∙ sym (loss_is room es (sym c.is_over.ensures ∙ c.if-not-is_over.false))
 
 pub returns-clause-left : goal.returns-clause-left
@@ -31,6 +31,6 @@ returns-clause-left c =
     let room = c.args.room.now in
     let es = c.args.index.now.entries in
     let over = sym c.is_over.ensures ∙ c.if-not-is_over.false in
-    let most = c.most_left.ensures ∙ ap (λ b. cond b (room.few / 2) (room.keys / 2)) c.are_large-large.ensures in
+    let most = c.most_left.ensures ∙ ap (λ b. cond b (room.few / 2) (max (room.few / 2) (room.keys / 4))) c.are_large-large.ensures in
     let lost = c.in_ok-lost.ensures ∙ ap (level es) most ∙ sym (loss_is room es over) in
     c.lower_all.ensures ∙ ap (λ t. lower t es) lost ∙ sym (left_is room es over)
