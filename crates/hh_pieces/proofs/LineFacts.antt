@@ -1,16 +1,16 @@
 -- The records of a text without quotes, or where a quote is a byte as any other, line by line.
 use Rattle.std.proofs.Common.{◌≡◌, ◌⊎◌, ◌∷◌, ◌++◌, ◌∙◌, inl, inr, ℕ, List, [], get_or, map, Bool, true, false, Option, Some, None, refl, sym, ap, append-nil, append_assoc}
-use Rattle.std.specs.Prelude.{◌==◌, ◌&&◌, not, option_map, if◌then◌else◌}
+use Rattle.std.specs.Prelude.{◌==◌, ◌&&◌, ◌||◌, not, option_map, if◌then◌else◌}
 use Rattle.std.specs.Bool.{OnTrue}
 use Rattle.std.specs.List.{AllByRecursion, join_with_byte, onto_first, slice_split}
 use Rattle.std.proofs.lemmas.List.Splits.{join_with_byte-slice_split}
 use Rattle.std.proofs.lemmas.Simd.{map-map}
 use Rattle.std.proofs.lemmas.Bool.{eqb-true, false≢true}
-use Rattle.csv.specs.Machine.{step, after_end}
+use Rattle.csv.specs.Machine.{after_end, carriage_return, line_feed, step}
 use Rattle.csv.specs.declared.parser.Config.{Config}
 use Rattle.csv.specs.declared.parser.State.{State}
 use Rattle.csv.specs.declared.parser.State.TheVariants as st
-use Rattle.hh_records.specs.Formats.{Names, byte_between, fields_by, is_whole_field, part_said}
+use Rattle.hh_records.specs.Formats.{Names, Part, byte_between, fields_by, is_whole_field, part_said}
 use Rattle.hh_records.specs.Layouts.{Places, by_columns, columns_among, configured, field_names, headed_parts, member_names, names_columns, parts_at, parts_by, places_in, rows_in}
 use Rattle.hh_records.specs.declared.layout.Layout.{Layout}
 use Rattle.hh_records.proofs.FormatFacts.{whole-parts}
@@ -18,7 +18,9 @@ use Rattle.hh_pieces.specs.Pieces.{piece_parts}
 use Rattle.hh_records.specs.declared.format.Format.{Format}
 use Rattle.hh_records.specs.declared.format.Format.TheVariants as format
 use Rattle.hh_pieces.specs.Laws.{UnquotedTextsAreSplit}
-use Rattle.hh_pieces.specs.Lines.{IsUnquoted, filled, is_line_end, is_separator, line_fields, parts_in_line, separator_of}
+use Rattle.hh_pieces.specs.Lines.{CutsWithin, IsUnquoted, cut_of, filled, is_line_end, is_separator, line_fields, parts_in_line}
+use Rattle.hh_pieces.specs.declared.lines.FieldPlaces.{FieldPlaces}
+use Rattle.hh_pieces.specs.declared.lines.LineCut.TheVariants as cut
 use Rattle.hh_records.specs.Streams.{Fields, Parts, parts_of}
 use Rattle.hh_pieces.proofs.CutFacts.{runs, runs-all}
 
@@ -198,7 +200,7 @@ module _ (names : Names) where
 
   -- the keys and the weights' fields of lines, where each is one field
   pub lines-joined : (lines : List (List ℕ))
-      → map (λ r. parts_of (fields_by format.Lines names r)) (map (line_fields 0) lines) ≡ map (parts_in_line None) lines
+      → map (λ r. parts_of (fields_by format.Lines names r)) (map (line_fields 0) lines) ≡ map (parts_in_line cut.Whole) lines
   lines-joined [] = refl
   lines-joined (line ∷ lines) =
       let all : fields_by format.Lines names (line_fields 0 line) ≡ line ∷ [] =
@@ -209,7 +211,7 @@ module _ (names : Names) where
   -- and where a line is cut at each delimiter
   pub lines-cut : (f : Format) (d : ℕ) → (f ≡ format.Csv) ⊎ (f ≡ format.Unquoted) → (lines : List (List ℕ))
       → map (λ r. parts_of (fields_by f names r)) (map (line_fields (byte_between f d)) lines)
-      ≡ map (parts_in_line (separator_of f d)) lines
+      ≡ map (parts_in_line (cut_of f d)) lines
   lines-cut f d (inl csv) lines = rw csv (map-map parts_of (line_fields d) lines)
   lines-cut f d (inr unquoted) lines = rw unquoted (map-map parts_of (line_fields d) lines)
 
@@ -255,3 +257,50 @@ text-pairs true layout bytes h =
           ∙ ap (λ o. option_map (λ at. map (parts_at at) rows) (option_map (by_columns layout) o)) columns
           ∙ ap Some (pairs-of (by_columns layout None) rows refl h.2),
     )
+
+-- ---- how lines are cut
+-- at a separator none ends
+separator-differs : (d : ℕ) → is_separator d ≡ true → (d == line_feed) ≡ false
+separator-differs d h = by (d == carriage_return) (d == line_feed) (separator-ends-none d h)
+  where
+    by : (a b : Bool) → (a || b) ≡ false → b ≡ false
+    by a false e = refl
+    by true true e = absurd (false≢true (sym e))
+    by false true e = absurd (false≢true (sym e))
+
+pub cut-within : (f : Format) (d : ℕ) → is_separator (byte_between f d) ≡ true → CutsWithin (cut_of f d)
+cut-within format.Csv d h = separator-differs d h
+cut-within format.Unquoted d h = separator-differs d h
+cut-within format.Squeezed d h = separator-differs d h
+cut-within format.Lines d h = tt
+cut-within format.Json d h = tt
+
+pub columns-within : (f : Format) (d : ℕ) (at : FieldPlaces) → (f ≡ format.Csv) ⊎ (f ≡ format.Unquoted)
+    → is_separator (byte_between f d) ≡ true → CutsWithin (cut.Columns d at)
+columns-within f d at (inl csv) h = separator-differs d (rw csv at h)
+columns-within f d at (inr unquoted) h = separator-differs d (rw unquoted at h)
+
+-- a part that is the whole field
+whole-is : (part : Part) → is_whole_field part ≡ true → part ≡ ([], None)
+whole-is ([], None) e = refl
+whole-is ([], Some n) e = cc e
+whole-is (b ∷ until, prefix) e = cc e
+
+-- the parts of lines that are read by two columns
+pub lines-columns : (layout : Layout) (places : Places) (at : FieldPlaces) → (layout.format ≡ format.Csv) ⊎ (layout.format ≡ format.Unquoted)
+    → (places.columns ≡ Some (at.key ∷ [], at.weight)) × (is_whole_field places.part ≡ true) × (places.format ≡ layout.format)
+    → (lines : List (List ℕ))
+    → map (parts_at places) (map (line_fields (byte_between layout.format layout.delimiter)) lines)
+    ≡ map (parts_in_line (cut.Columns layout.delimiter at)) lines
+lines-columns layout places at split h [] = refl
+lines-columns layout places at split h (line ∷ lines) = rw (one split) (rw (lines-columns layout places at split h lines) refl)
+  where
+    by : (f : Format) → (f ≡ format.Csv) ⊎ (f ≡ format.Unquoted)
+        → fields_by f places.names (line_fields (byte_between f layout.delimiter) line) ≡ line_fields layout.delimiter line
+    by f (inl csv) = rw csv refl
+    by f (inr unquoted) = rw unquoted refl
+
+    one : (layout.format ≡ format.Csv) ⊎ (layout.format ≡ format.Unquoted)
+        → parts_at places (line_fields (byte_between layout.format layout.delimiter) line)
+        ≡ parts_in_line (cut.Columns layout.delimiter at) line
+    one split = rw (h.0, whole-is places.part h.1, h.2, by layout.format split) refl

@@ -5,6 +5,7 @@
 #![tactic(auto)]
 
 mod chunks;
+mod columns;
 mod cut_files;
 mod cuts;
 mod fields;

@@ -1,21 +1,21 @@
 //! Pieces of a text of records, each of which is read by itself.
 
 ghost use Rattle.std.specs.Bool.{OnTrue};
-ghost use Rattle.std.specs.Prelude.{◌≡◌, ◌≤◌, ℕ, List, None, Ok, Some, false, true, map, IfOk, IfErr, IfSome, OnOk, option_and_then, option_map};
+ghost use Rattle.std.specs.Prelude.{◌≡◌, ◌≤◌, ◌∷◌, ℕ, List, [], None, Ok, Some, false, true, map, IfOk, IfErr, IfSome, OnOk, option_and_then, option_map};
 ghost use Rattle.hh_stream.specs.Weights.{max_total};
 ghost use Rattle.hh_stream.specs.Taking.{Takes};
 ghost use Rattle.hh_records.specs.Layouts.{IsText, OpenRefused, Opens, Places, chosen_places};
-ghost use Rattle.hh_records.specs.Layouts.{names_columns, parts_left, text_parts};
+ghost use Rattle.hh_records.specs.Layouts.{names_columns, parts_at, parts_left, text_parts};
 ghost use Rattle.hh_records.specs.Formats.{Names, byte_between, fields_by, is_whole_field, part_said};
 ghost use Rattle.hh_records.specs.Layouts.{chosen_columns};
 ghost use Rattle.hh_pieces.specs.Lines as spec;
-ghost use Rattle.hh_pieces.specs.Lines.{filled_lines, parts_in_line};
+ghost use Rattle.hh_pieces.specs.Lines.{CutsWithin, filled_lines, parts_in_line};
 ghost use Rattle.hh_pieces.specs.Pieces.{PieceRefused, piece_parts, piece_reading};
 ghost use Rattle.hh_records.specs.Layouts.{FindsColumns, rows_in};
 ghost use Rattle.hh_records.specs.Streams.{parts_of};
 
 use crate::cuts::mark_len;
-use crate::lines::{is_separator, read_lines, sees_no_quote, separator_of};
+use crate::lines::{FieldPlaces, LineCut, cut_of, is_separator, read_lines, sees_no_quote};
 use csv::ReaderBuilder;
 use hh_faults::TextError;
 use hh_records::retrying::Retrying;
@@ -177,7 +177,7 @@ fn has_plain_lines(layout: &Layout) -> bool
     ensures parts { OnTrue result ((names : Names) (lines : List (List ℕ)) →
         map (λ r. parts_of (fields_by layout.now.format names r))
         (map (spec.line_fields (byte_between layout.now.format layout.now.delimiter)) lines)
-        ≡ map (parts_in_line (spec.separator_of layout.now.format layout.now.delimiter)) lines) }
+        ≡ map (parts_in_line (spec.cut_of layout.now.format layout.now.delimiter)) lines) }
 {
     match layout.format {
         Format::Csv | Format::Unquoted => is_separator(layout.delimiter),
@@ -186,17 +186,84 @@ fn has_plain_lines(layout: &Layout) -> bool
     }
 }
 
-/// What stands after a byte order mark, where a piece of a text can be read line by line.
-fn plain_text<'t>(layout: &Layout, columns: Option<&Columns>, piece: &'t [u8]) -> Option<&'t [u8]>
-    ensures { IfSome result (λ text.
-        piece_parts layout.now (option_map (λ c. c.now) columns.entry) piece.now
-        ≡ Some (map (parts_in_line (spec.separator_of layout.now.format layout.now.delimiter))
-        (filled_lines text.now))) }
+/// Where the key and the weight's field stand of records in this `format` that `chosen` reads, if
+/// the key is one whole field.
+fn field_places(chosen: &ChosenLayout, format: Format) -> Option<FieldPlaces>
+    ensures { IfSome result (λ at.
+        (chosen_columns chosen.now.columns ≡ Some (at.key ∷ [], at.weight))
+        × (is_whole_field (part_said chosen.now.part) ≡ true) × (chosen.now.format ≡ format)) }
 {
+    if chosen.format != format || !chosen.part.is_whole() {
+        return None;
+    }
+    match &chosen.columns {
+        Some(columns) if columns.key.len() == 1 => Some(FieldPlaces {
+            key: columns.key[0],
+            weight: columns.weight,
+        }),
+        Some(_) | None => None,
+    }
+}
+
+/// How lines are cut whose fields are records that `columns` reads.
+fn column_cut(layout: &Layout, columns: &Columns) -> Option<LineCut>
+    ensures apart { spec.is_separator (byte_between layout.now.format layout.now.delimiter) ≡ true
+        → IfSome result CutsWithin }
+    ensures parts { IfSome result (λ cut. (lines : List (List ℕ)) → map (parts_at columns.now)
+        (map (spec.line_fields (byte_between layout.now.format layout.now.delimiter)) lines)
+        ≡ map (parts_in_line cut) lines) }
+{
+    match layout.format {
+        Format::Csv | Format::Unquoted => match field_places(&columns.chosen, layout.format) {
+            Some(at) => Some(LineCut::Columns(layout.delimiter, at)),
+            None => None,
+        },
+        Format::Squeezed | Format::Lines | Format::Json => None,
+    }
+}
+
+/// How the lines of a piece are cut, where `csv` cuts it into lines but for its quotes.
+fn line_cut(layout: &Layout, columns: Option<&Columns>) -> Option<LineCut>
+    ensures separated { IfSome result (λ _.
+        spec.is_separator (byte_between layout.now.format layout.now.delimiter) ≡ true) }
+    ensures apart { IfSome result CutsWithin }
+    ensures parts { IfSome result (λ cut. (bytes : List ℕ) (lines : List (List ℕ)) →
+        rows_in layout.now bytes
+        ≡ map (spec.line_fields (byte_between layout.now.format layout.now.delimiter)) lines
+        → piece_parts layout.now (option_map (λ c. c.now) columns.entry) bytes
+        ≡ Some (map (parts_in_line cut) lines)) }
+{
+    if !has_plain_lines(layout) {
+        return None;
+    }
+    if has_pairs(layout, columns) {
+        return Some(cut_of(layout.format, layout.delimiter));
+    }
+    match columns {
+        Some(columns) => column_cut(layout, columns),
+        None => None,
+    }
+}
+
+/// What stands after a byte order mark, and how its lines are cut, where a piece of a text can be
+/// read line by line.
+fn plain_text<'t>(
+    layout: &Layout,
+    columns: Option<&Columns>,
+    piece: &'t [u8],
+) -> Option<(&'t [u8], LineCut)>
+    ensures apart { IfSome result (λ text. CutsWithin text.1) }
+    ensures parts { IfSome result (λ text.
+        piece_parts layout.now (option_map (λ c. c.now) columns.entry) piece.now
+        ≡ Some (map (parts_in_line text.1) (filled_lines text.0.now))) }
+{
+    let Some(cut) = line_cut(layout, columns) else {
+        return None;
+    };
     let text = &piece[mark_len(piece)..];
     let quoting = layout.format.has_quotes();
-    if has_pairs(layout, columns) && has_plain_lines(layout) && sees_no_quote(text, quoting) {
-        Some(text)
+    if sees_no_quote(text, quoting) {
+        Some((text, cut))
     } else {
         None
     }
@@ -228,9 +295,8 @@ pub fn read_piece<T: TakeItems>(
 {
     // What was taken before is in range, as this call's clause says.
     let _ = taker.total();
-    if let Some(text) = plain_text(layout, columns, piece) {
-        let separator = separator_of(layout.format, layout.delimiter);
-        read_lines(alloc, text, separator, taker, bad, layout)?;
+    if let Some((text, cut)) = plain_text(layout, columns, piece) {
+        read_lines(alloc, text, cut, taker, bad, layout)?;
         return Ok(());
     }
     read_left(alloc, layout, columns, piece, bad, taker)

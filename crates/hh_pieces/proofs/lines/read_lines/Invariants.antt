@@ -10,7 +10,7 @@ invariant-loop-from g l = (g.T.TakeItems.weight_taken l.taker ≤ max_total)
     × ((xs : List Entry)
     × (g.T.TakeItems.weight_taken l.taker ≡ g.T.TakeItems.weight_taken l.initial.taker + total_of xs)
     × All (λ (e : Entry). 0 < e.1) xs × (l.taker ≡ fold g.T.TakeItems.with_item l.initial.taker xs)
-    × LinesRead l.fn.layout l.fn.separator (g.T.TakeItems.weight_taken l.initial.taker) l.fn.text l.from xs l.number)
+    × LinesRead l.fn.layout l.fn.cut (g.T.TakeItems.weight_taken l.initial.taker) l.fn.text l.from xs l.number)
 
 abbrev pub decreases-loop-from : goal.decreases-loop-from
 decreases-loop-from g l = length l.fn.text - l.from
