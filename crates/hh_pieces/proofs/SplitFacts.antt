@@ -14,8 +14,7 @@ use Rattle.hh_faults.specs.declared.records.TextError.{TextError}
 use Rattle.hh_faults.specs.declared.records.TextError.TheVariants as error
 use Rattle.hh_records.specs.declared.layout.Layout.{Layout}
 use Rattle.hh_records.specs.Layouts.{RecordRefused, RowsRefused, adds, items_after}
-use Rattle.hh_pieces.specs.Lines.{HasNoReturn, filled, filled_lines, is_line_end, line_end, line_fields, parts_in_line}
-use Rattle.hh_pieces.specs.declared.lines.LineCut.{LineCut}
+use Rattle.hh_pieces.specs.Lines.{HasNoReturn, filled, filled_lines, is_line_end, line_end, line_fields}
 use Rattle.hh_records.specs.Streams.{Fields, Parts, parts_of}
 use Rattle.hh_pieces.proofs.QuoteFacts.{rest-all}
 use Rattle.hh_records.proofs.FormatFacts.{first-place, none-place}
@@ -208,9 +207,9 @@ module _ (text : List ℕ) (from end : ℕ) (is : end ≡ line_end text from) wh
       ap (λ n. slice_range alone 0 n) size ∙ rest-all alone 0
 
 -- ---- the lines read so far
-module _ (layout : Layout) (cut : LineCut) (t : ℕ) (text : List ℕ) where
+module _ (layout : Layout) (read : List ℕ → Parts) (t : ℕ) (text : List ℕ) where
   abbrev parts : List (List ℕ) → List Parts
-  parts lines = map (parts_in_line cut) lines
+  parts lines = map read lines
 
   -- so many lines before a place were read, and add these items
   pub record LinesRead (from : ℕ) (xs : List Entry) (number : ℕ) : Type 0 where
@@ -222,12 +221,6 @@ module _ (layout : Layout) (cut : LineCut) (t : ℕ) (text : List ℕ) where
   pub lines-none : LinesRead 0 [] 0
   unfolding items_after
   lines-none = record { lines = []; all = refl; items = refl; count = refl }
-
-  -- all of them
-  pub lines-end : (from : ℕ) (xs : List Entry) (number : ℕ) → length text ≤ from → LinesRead from xs number
-      → items_after layout 1 t (parts (filled_lines text)) ≡ Ok xs
-  lines-end from xs number end so_far =
-      rw (so_far.all, drop_all from text end, append-nil so_far.lines) so_far.items
 
   module _ (from end : ℕ) (xs : List Entry) (number : ℕ) (order : from ≤ end) (within : end ≤ length text)
       (is : end ≡ line_end text from) (so_far : LinesRead from xs number) where
@@ -248,40 +241,40 @@ module _ (layout : Layout) (cut : LineCut) (t : ℕ) (text : List ℕ) where
     all-lines some =
         so_far.all ∙ ap (λ (ls : List (List ℕ)). so_far.lines ++ ls) (line-some text from end order within is some)
 
-    pub lines-more : from < end → (es : List Entry) → adds layout (t + total_of xs) (parts_in_line cut line) ≡ Ok es
+    pub lines-more : from < end → (es : List Entry) → adds layout (t + total_of xs) (read line) ≡ Ok es
         → LinesRead (end + 1) (xs ++ es) (number + 1)
     unfolding items_after
     lines-more some es j =
         let size = length-append so_far.lines (line ∷ []) in
-        let all : parts (so_far.lines ++ line ∷ []) ≡ parts so_far.lines ++ parts_in_line cut line ∷ [] =
-        map-append (parts_in_line cut) so_far.lines (line ∷ []) in
+        let all : parts (so_far.lines ++ line ∷ []) ≡ parts so_far.lines ++ read line ∷ [] =
+        map-append read so_far.lines (line ∷ []) in
         record {
           lines = so_far.lines ++ line ∷ [];
           all = all-lines some ∙ sym (append_assoc so_far.lines (line ∷ []) (filled_lines (drop (end + 1) text)));
           items = rw (
             all,
-            items-more layout 1 t xs (parts so_far.lines) (parts_in_line cut line ∷ []) so_far.items,
+            items-more layout 1 t xs (parts so_far.lines) (read line ∷ []) so_far.items,
             j,
             append-nil es,
           ) refl;
           count = omega (arith, size, so_far.count);
         }
 
-    pub lines-refused : from < end → (x : TextError) → RecordRefused (number + 1) (adds layout (t + total_of xs) (parts_in_line cut line)) x
+    pub lines-refused : from < end → (x : TextError) → RecordRefused (number + 1) (adds layout (t + total_of xs) (read line)) x
         → RowsRefused layout 0 t (Some (parts (filled_lines text))) x
     unfolding items_after
     lines-refused some error.Memory j = tt
     lines-refused some (error.BadRecord l x) (same, j) =
         let left = filled_lines (drop (end + 1) text) in
-        let all : parts (so_far.lines ++ line ∷ left) ≡ parts so_far.lines ++ parts_in_line cut line ∷ parts left =
-        map-append (parts_in_line cut) so_far.lines (line ∷ left) in
-        let size = length-map so_far.lines (parts_in_line cut) in
+        let all : parts (so_far.lines ++ line ∷ left) ≡ parts so_far.lines ++ read line ∷ parts left =
+        map-append read so_far.lines (line ∷ left) in
+        let size = length-map so_far.lines read in
         let place : 1 + length (parts so_far.lines) ≡ number + 1 = omega (arith, size, so_far.count) in
         rw (
           same,
           all-lines some,
           all,
-          items-more layout 1 t xs (parts so_far.lines) (parts_in_line cut line ∷ parts left) so_far.items,
+          items-more layout 1 t xs (parts so_far.lines) (read line ∷ parts left) so_far.items,
           j,
           place,
         ) refl

@@ -1,8 +1,9 @@
 -- The records of a text without quotes, line by line.
-use Rattle.std.specs.Prelude.{◌≡◌, ◌==◌, ◌||◌, ◌&&◌, ◌+◌, ◌<◌, ◌≤◌, ℕ, Bool, true, false, List, [], ◌∷◌, length, map, not, drop, slice_range, Option, Some, None, ⊤}
+use Rattle.std.specs.Prelude.{◌≡◌, ◌==◌, ◌||◌, ◌&&◌, ◌+◌, ◌<◌, ◌≤◌, ℕ, Bool, true, false, List, [], ◌∷◌, length, map, not, drop, slice_range, Option, Some, None, option_map, ⊤}
 use Rattle.std.specs.List.{AllByRecursion, filter, position_or_len, slice_split}
 use Rattle.csv.specs.Machine.{carriage_return, line_feed}
 use Rattle.memchr.specs.Find.{Nowhere, Passes, is_byte, is_byte2}
+use Rattle.hh_records.specs.Formats.{Part, part_of}
 use Rattle.hh_records.specs.Layouts.{parts_by}
 use Rattle.hh_records.specs.Streams.{Fields, Parts, parts_of}
 use Rattle.hh_records.specs.declared.format.Format.{Format}
@@ -55,6 +56,14 @@ abbrev pub parts_in_line : LineCut → List ℕ → Parts
 parts_in_line cut.Whole line = Some (line, None)
 parts_in_line (cut.Pair d) line = parts_of (line_fields d line)
 parts_in_line (cut.Columns d at) line = parts_in_columns at.key at.weight (line_fields d line)
+
+-- these with a part of the key in its place
+abbrev pub key_parts : Part → Parts → Parts
+key_parts part p = option_map (λ p. (part_of part p.0, p.1)) p
+
+-- the part of the key and the weight's field of a line that is cut so
+abbrev pub line_parts : Part → LineCut → List ℕ → Parts
+line_parts part cut line = key_parts part (parts_in_line cut line)
 
 -- no line that is cut so ends at the byte between its fields
 abbrev pub CutsWithin : LineCut → Type 0

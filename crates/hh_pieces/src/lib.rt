@@ -10,6 +10,7 @@ mod cut_files;
 mod cuts;
 mod fields;
 mod growing;
+mod key_parts;
 pub mod laws;
 mod lines;
 mod pieces;

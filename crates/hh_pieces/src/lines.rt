@@ -5,12 +5,14 @@ ghost use Rattle.std.specs.Bool.{OnTrue};
 ghost use Rattle.std.specs.Prelude.{◌≡◌, ◌≤◌, IfErr, OnOk, Ok, Some, length, map, option_map, slice_range, true};
 ghost use Rattle.hh_stream.specs.Weights.{max_total};
 ghost use Rattle.hh_stream.specs.Taking.{Takes};
+ghost use Rattle.hh_records.specs.Formats.{part_said};
 ghost use Rattle.hh_records.specs.Layouts.{RowsRefused, items_after};
 ghost use Rattle.hh_pieces.specs.Lines as spec;
-ghost use Rattle.hh_pieces.specs.Lines.{CutsWithin, HasNoReturn, IsUnquoted, filled_lines, parts_in_line};
+ghost use Rattle.hh_pieces.specs.Lines.{CutsWithin, HasNoReturn, IsUnquoted, filled_lines, line_parts, parts_in_line};
 
 use crate::columns::columns_at;
 use crate::fields::{feed_from, line_at};
+use crate::key_parts::key_parts;
 use hh_faults::TextError;
 use hh_records::{Format, Layout, take_parts};
 use hh_stream::TakeItems;
@@ -135,7 +137,7 @@ fn parts_from(
 }
 
 /// Hands on what each line of a text adds, blank ones aside, which is cut by `cut`, and counts those
-/// that are `bad`.
+/// that are `bad`. Of its key the part of `layout` counts.
 pub(crate) fn read_lines<T: TakeItems>(
     alloc: Global,
     text: &[u8],
@@ -149,19 +151,21 @@ pub(crate) fn read_lines<T: TakeItems>(
     ensures items { OnOk result
         (Takes T.with_item T.weight_taken taker.old taker.new (λ xs.
         items_after layout.now 1 (T.weight_taken taker.old)
-        (map (parts_in_line cut) (filled_lines text.now)) ≡ Ok xs)) }
+        (map (line_parts (part_said layout.now.part) cut) (filled_lines text.now)) ≡ Ok xs)) }
     ensures bounded { OnOk result (T.weight_taken taker.new ≤ max_total) }
     ensures refused { IfErr result (λ error.
         RowsRefused layout.now 0 (T.weight_taken taker.old)
-        (Some (map (parts_in_line cut) (filled_lines text.now))) error) }
+        (Some (map (line_parts (part_said layout.now.part) cut) (filled_lines text.now))) error) }
 {
     let has_no_return = has_no_return(text);
+    let is_whole = layout.part.is_whole();
     let mut from = 0;
     let mut number = 0;
     while from < text.len() {
         let (parts, end) = parts_from(text, from, cut, has_no_return);
         if from < end {
             number += 1;
+            let parts = key_parts(parts, &layout.part, is_whole);
             take_parts(alloc, taker, number, parts, bad, layout)?;
         }
         from = end + 1;

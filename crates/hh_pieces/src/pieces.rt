@@ -5,16 +5,16 @@ ghost use Rattle.std.specs.Prelude.{◌≡◌, ◌≤◌, ◌∷◌, ℕ, List, 
 ghost use Rattle.hh_stream.specs.Weights.{max_total};
 ghost use Rattle.hh_stream.specs.Taking.{Takes};
 ghost use Rattle.hh_records.specs.Layouts.{IsText, OpenRefused, Opens, Places, chosen_places};
-ghost use Rattle.hh_records.specs.Layouts.{names_columns, parts_at, parts_left, text_parts};
-ghost use Rattle.hh_records.specs.Formats.{Names, byte_between, fields_by, is_whole_field, part_said};
+ghost use Rattle.hh_records.specs.Layouts.{names_columns, parts_at, parts_by, parts_left, text_parts};
+ghost use Rattle.hh_records.specs.Formats.{Names, Part, byte_between, fields_by, part_said};
 ghost use Rattle.hh_records.specs.Layouts.{chosen_columns};
 ghost use Rattle.hh_pieces.specs.Lines as spec;
-ghost use Rattle.hh_pieces.specs.Lines.{CutsWithin, filled_lines, parts_in_line};
+ghost use Rattle.hh_pieces.specs.Lines.{CutsWithin, filled_lines, line_parts};
 ghost use Rattle.hh_pieces.specs.Pieces.{PieceRefused, piece_parts, piece_reading};
 ghost use Rattle.hh_records.specs.Layouts.{FindsColumns, rows_in};
-ghost use Rattle.hh_records.specs.Streams.{parts_of};
 
 use crate::cuts::mark_len;
+use crate::key_parts::is_same_part;
 use crate::lines::{FieldPlaces, LineCut, cut_of, is_separator, read_lines, sees_no_quote};
 use csv::ReaderBuilder;
 use hh_faults::TextError;
@@ -132,39 +132,41 @@ fn open_piece<R: Read + Drop>(
     }
 }
 
-/// Whether records in this `format` that `chosen` reads are keys and weights, or keys alone.
-fn chooses_no_columns(chosen: &ChosenLayout, format: Format) -> bool
-    ensures { OnTrue result ((chosen_columns chosen.now.columns ≡ None)
-        × (is_whole_field (part_said chosen.now.part) ≡ true) × (chosen.now.format ≡ format)) }
+/// Whether `chosen` reads records as `layout` says, but for columns.
+fn is_chosen_for(chosen: &ChosenLayout, layout: &Layout) -> bool
+    ensures { OnTrue result ((part_said chosen.now.part ≡ part_said layout.now.part)
+        × (chosen.now.format ≡ layout.now.format)) }
 {
-    if chosen.columns.is_some() || chosen.format != format {
-        return false;
-    }
-    chosen.part.is_whole()
+    chosen.format == layout.format && is_same_part(&chosen.part, &layout.part)
+}
+
+/// Whether records that `chosen` reads as `layout` says are keys and weights, or keys alone.
+fn chooses_no_columns(chosen: &ChosenLayout, layout: &Layout) -> bool
+    ensures { OnTrue result ((chosen_columns chosen.now.columns ≡ None)
+        × (part_said chosen.now.part ≡ part_said layout.now.part)
+        × (chosen.now.format ≡ layout.now.format)) }
+{
+    chosen.columns.is_none() && is_chosen_for(chosen, layout)
 }
 
 /// Whether the records of a text that `layout` reads, from the first one on, are keys and weights,
 /// or keys alone.
 fn names_no_columns(layout: &Layout) -> bool
     ensures { OnTrue result ((layout.now.has_header ≡ false)
-        × (names_columns layout.now ≡ false)
-        × (is_whole_field (part_said layout.now.part) ≡ true)) }
+        × (names_columns layout.now ≡ false)) }
 {
-    if layout.has_header || !layout.key.is_empty() || layout.weight.is_some() {
-        return false;
-    }
-    layout.part.is_whole()
+    !layout.has_header && layout.key.is_empty() && layout.weight.is_none()
 }
 
 /// Whether the records of a piece of a text are keys and weights, or keys alone.
 fn has_pairs(layout: &Layout, columns: Option<&Columns>) -> bool
     ensures { (bytes : List ℕ) → OnTrue result ((names : Names)
         × (piece_parts layout.now (option_map (λ c. c.now) columns.entry) bytes
-        ≡ Some (map (λ r. parts_of (fields_by layout.now.format names r))
-        (rows_in layout.now bytes)))) }
+        ≡ Some (map (λ r. parts_by None (part_said layout.now.part)
+        (fields_by layout.now.format names r)) (rows_in layout.now bytes)))) }
 {
     match columns {
-        Some(columns) => chooses_no_columns(&columns.chosen, layout.format),
+        Some(columns) => chooses_no_columns(&columns.chosen, layout),
         None => names_no_columns(layout),
     }
 }
@@ -174,10 +176,10 @@ fn has_pairs(layout: &Layout, columns: Option<&Columns>) -> bool
 fn has_plain_lines(layout: &Layout) -> bool
     ensures separated { OnTrue result
         (spec.is_separator (byte_between layout.now.format layout.now.delimiter) ≡ true) }
-    ensures parts { OnTrue result ((names : Names) (lines : List (List ℕ)) →
-        map (λ r. parts_of (fields_by layout.now.format names r))
+    ensures parts { OnTrue result ((part : Part) (names : Names) (lines : List (List ℕ)) →
+        map (λ r. parts_by None part (fields_by layout.now.format names r))
         (map (spec.line_fields (byte_between layout.now.format layout.now.delimiter)) lines)
-        ≡ map (parts_in_line (spec.cut_of layout.now.format layout.now.delimiter)) lines) }
+        ≡ map (line_parts part (spec.cut_of layout.now.format layout.now.delimiter)) lines) }
 {
     match layout.format {
         Format::Csv | Format::Unquoted => is_separator(layout.delimiter),
@@ -186,14 +188,15 @@ fn has_plain_lines(layout: &Layout) -> bool
     }
 }
 
-/// Where the key and the weight's field stand of records in this `format` that `chosen` reads, if
-/// the key is one whole field.
-fn field_places(chosen: &ChosenLayout, format: Format) -> Option<FieldPlaces>
+/// Where the key and the weight's field stand of records that `chosen` reads as `layout` says, if
+/// the key is one field.
+fn field_places(chosen: &ChosenLayout, layout: &Layout) -> Option<FieldPlaces>
     ensures { IfSome result (λ at.
         (chosen_columns chosen.now.columns ≡ Some (at.key ∷ [], at.weight))
-        × (is_whole_field (part_said chosen.now.part) ≡ true) × (chosen.now.format ≡ format)) }
+        × (part_said chosen.now.part ≡ part_said layout.now.part)
+        × (chosen.now.format ≡ layout.now.format)) }
 {
-    if chosen.format != format || !chosen.part.is_whole() {
+    if !is_chosen_for(chosen, layout) {
         return None;
     }
     match &chosen.columns {
@@ -211,10 +214,10 @@ fn column_cut(layout: &Layout, columns: &Columns) -> Option<LineCut>
         → IfSome result CutsWithin }
     ensures parts { IfSome result (λ cut. (lines : List (List ℕ)) → map (parts_at columns.now)
         (map (spec.line_fields (byte_between layout.now.format layout.now.delimiter)) lines)
-        ≡ map (parts_in_line cut) lines) }
+        ≡ map (line_parts (part_said layout.now.part) cut) lines) }
 {
     match layout.format {
-        Format::Csv | Format::Unquoted => match field_places(&columns.chosen, layout.format) {
+        Format::Csv | Format::Unquoted => match field_places(&columns.chosen, layout) {
             Some(at) => Some(LineCut::Columns(layout.delimiter, at)),
             None => None,
         },
@@ -231,7 +234,7 @@ fn line_cut(layout: &Layout, columns: Option<&Columns>) -> Option<LineCut>
         rows_in layout.now bytes
         ≡ map (spec.line_fields (byte_between layout.now.format layout.now.delimiter)) lines
         → piece_parts layout.now (option_map (λ c. c.now) columns.entry) bytes
-        ≡ Some (map (parts_in_line cut) lines)) }
+        ≡ Some (map (line_parts (part_said layout.now.part) cut) lines)) }
 {
     if !has_plain_lines(layout) {
         return None;
@@ -255,7 +258,7 @@ fn plain_text<'t>(
     ensures apart { IfSome result (λ text. CutsWithin text.1) }
     ensures parts { IfSome result (λ text.
         piece_parts layout.now (option_map (λ c. c.now) columns.entry) piece.now
-        ≡ Some (map (parts_in_line text.1) (filled_lines text.0.now))) }
+        ≡ Some (map (line_parts (part_said layout.now.part) text.1) (filled_lines text.0.now))) }
 {
     let Some(cut) = line_cut(layout, columns) else {
         return None;

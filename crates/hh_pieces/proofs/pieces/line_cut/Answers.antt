@@ -1,7 +1,8 @@
-use Rattle.std.proofs.Common.{◌∙◌, ap, Some, map, sym}
-use Rattle.hh_records.specs.Formats.{fields_by}
-use Rattle.hh_records.specs.Streams.{Fields, Parts, parts_of}
-use Rattle.hh_pieces.specs.Lines.{parts_in_line}
+use Rattle.std.proofs.Common.{◌∙◌, ap, None, Some, map, sym}
+use Rattle.hh_records.specs.Formats.{fields_by, part_said}
+use Rattle.hh_records.specs.Layouts.{parts_by}
+use Rattle.hh_records.specs.Streams.{Fields, Parts}
+use Rattle.hh_pieces.specs.Lines.{line_parts}
 use Rattle.hh_pieces.proofs.LineFacts.{cut-within}
 use Rattle.hh_pieces.proofs.pieces.line_cut.Goals as goal
 
@@ -12,8 +13,9 @@ returns-then-has_pairs-clause-apart c =
 pub returns-then-has_pairs-clause-parts : goal.returns-then-has_pairs-clause-parts
 returns-then-has_pairs-clause-parts c = λ bytes lines rows.
     let (names, read) = c.if-has_pairs.ensures bytes in
-    let parts : Fields → Parts = λ r. parts_of (fields_by c.args.layout.now.format names r) in
+    let part = part_said c.args.layout.now.part in
+    let parts : Fields → Parts = λ r. parts_by None part (fields_by c.args.layout.now.format names r) in
     read
     ∙ ap (λ rs. Some (map parts rs)) rows
-    ∙ ap Some (c.if-not-has_plain_lines.ensures.parts names lines)
-    ∙ ap (λ cut. Some (map (parts_in_line cut) lines)) (sym c.cut_of.ensures)
+    ∙ ap Some (c.if-not-has_plain_lines.ensures.parts part names lines)
+    ∙ ap (λ cut. Some (map (line_parts part cut) lines)) (sym c.cut_of.ensures)

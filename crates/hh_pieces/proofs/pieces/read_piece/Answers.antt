@@ -1,6 +1,7 @@
 use Rattle.std.proofs.Common.{arith}
 use Rattle.std.specs.Prelude.{map, option_map}
-use Rattle.hh_pieces.specs.Lines.{filled_lines, parts_in_line}
+use Rattle.hh_records.specs.Formats.{part_said}
+use Rattle.hh_pieces.specs.Lines.{filled_lines, line_parts}
 use Rattle.hh_pieces.proofs.PieceFacts.{piece-some}
 use Rattle.hh_pieces.proofs.pieces.read_piece.Goals as goal
 
@@ -12,7 +13,7 @@ returns-in-Some-clause-items g c =
       xs = t.xs;
       given = piece-some c.args.layout.now (option_map (λ c. c.now) c.args.columns) c.args.piece.now
           (g.T.TakeItems.weight_taken c.args.taker.now) t.xs
-          (map (parts_in_line c.in-Some.cut) (filled_lines c.in-Some.text.now)) c.in-Some.ensures.parts t.given
+          (map (line_parts (part_said c.args.layout.now.part) c.in-Some.cut) (filled_lines c.in-Some.text.now)) c.in-Some.ensures.parts t.given
           (omega (arith, t.weight, c.in_ok-read_lines.ensures.bounded));
       positive = t.positive;
       weight = t.weight;
