@@ -102,13 +102,13 @@ EndsLine text from end = EndsRun (is_byte line_feed) text from end
 abbrev pub fields_left : ℕ → List ℕ → ℕ → ℕ → List (List ℕ)
 fields_left d text from end = line_fields d (slice_range text from end)
 
--- of the line that goes on at one place so many fields stand before another
+-- of the line that goes on at one place `count` fields stand before another
 pub record AreBetween (d : ℕ) (text : List ℕ) (from count at : ℕ) : Type 0 where
   pub line : (end : ℕ) → EndsLine text at end → EndsLine text from end
   pub fields : (end : ℕ) → EndsLine text at end
       → drop count (fields_left d text from end) ≡ fields_left d text at end
 
--- the line that goes on at one place ends at another, and has no more than so many fields there
+-- the line that goes on at one place ends at another, and has at most `count` fields between
 pub record AreAll (d : ℕ) (text : List ℕ) (from count end : ℕ) : Type 0 where
   pub line : EndsLine text from end
   pub few : length (fields_left d text from end) ≤ count
