@@ -272,6 +272,31 @@ fn plain_text<'t>(
     }
 }
 
+/// What stands after a byte order mark, and how its lines are cut, where a piece of a text can be
+/// read line by line: a first piece with no header by the columns that the layout names by number.
+fn piece_lines<'t>(
+    alloc: Global,
+    layout: &Layout,
+    columns: Option<&Columns>,
+    piece: &'t [u8],
+) -> Result<Option<(&'t [u8], LineCut)>, TextError>
+    ensures apart { IfOk result (λ found. IfSome found (λ text. CutsWithin text.1)) }
+    ensures parts { IfOk result (λ found. IfSome found (λ text.
+        piece_parts layout.now (option_map (λ c. c.now) columns.entry) piece.now
+        ≡ Some (map (line_parts (part_said layout.now.part) text.1) (filled_lines text.0.now)))) }
+    ensures refused { IfErr result (λ error. (total : ℕ) →
+        PieceRefused layout.now (option_map (λ c. c.now) columns.entry) piece.now total error) }
+{
+    if columns.is_some() || layout.has_header || names_no_columns(layout) {
+        return Ok(plain_text(layout, columns, piece));
+    }
+    match Columns::of_text(alloc, layout, piece) {
+        Ok(Some(own)) => Ok(plain_text(layout, Some(&own), piece)),
+        Ok(None) => Ok(None),
+        Err(error) => Err(error),
+    }
+}
+
 /// Hands on what the records of one piece of a text add. The first piece of a text is read with no
 /// columns: its header, where the layout has one, chooses them. Each later piece is read by the
 /// columns that the first one chose ([`Columns::of_text`]), and has no header.
@@ -298,7 +323,7 @@ pub fn read_piece<T: TakeItems>(
 {
     // What was taken before is in range, as this call's clause says.
     let _ = taker.total();
-    if let Some((text, cut)) = plain_text(layout, columns, piece) {
+    if let Some((text, cut)) = piece_lines(alloc, layout, columns, piece)? {
         read_lines(alloc, text, cut, taker, bad, layout)?;
         return Ok(());
     }
