@@ -1,5 +1,5 @@
 -- Lines and fields of a text by the places of the bytes that end them.
-use Rattle.std.proofs.Common.{◌≡◌, ◌==◌, ◌≤◌, ◌<◌, ◌+◌, ◌-◌, ◌∙◌, ℕ, List, length, map, take, drop, get_or, cond, Bool, true, false, Some, None, refl, sym, ap, arith, length-drop}
+use Rattle.std.proofs.Common.{◌≡◌, ◌==◌, ◌≤◌, ◌<◌, ◌+◌, ◌-◌, ◌∷◌, ◌∙◌, ℕ, List, [], length, map, take, drop, get_or, cond, Bool, true, false, Some, None, refl, sym, ap, arith, length-drop}
 use Rattle.std.specs.Prelude.{bit_or, slice_range}
 use Rattle.std.specs.Int.{bit_at}
 use Rattle.std.specs.List.{position_or_len}
@@ -14,7 +14,7 @@ use Rattle.memchr.specs.Find.{NoneBefore, Nowhere, Passes, is_byte}
 use Rattle.hh_pieces.specs.Lines.{EndsRun, HasNoReturn, is_field_end, line_end, line_fields}
 use Rattle.hh_records.specs.Streams.{Parts, parts_of}
 use Rattle.hh_pieces.proofs.QuoteFacts.{rest-all}
-use Rattle.hh_pieces.proofs.SplitFacts.{ends-at-feeds, no-return-after, parts-more, parts-one, parts-two}
+use Rattle.hh_pieces.proofs.SplitFacts.{ends-at-feeds, first-field, no-return-after, one-field, parts-more, parts-one, parts-two}
 use Rattle.hh_records.proofs.FormatFacts.{first-place, none-place}
 
 -- ---- what a search of the rest of a text says of the text
@@ -74,7 +74,7 @@ module _ (test : ℕ → Bool) (text : List ℕ) (from : ℕ) where
 
 -- ---- fields
 -- a byte that passes one of two tests
-second-of : (d c : ℕ) → (c == line_feed) ≡ true → is_field_end d c ≡ true
+pub second-of : (d c : ℕ) → (c == line_feed) ≡ true → is_field_end d c ≡ true
 second-of d c e = by (c == d) refl
   where
     by : (b : Bool) → (c == d) ≡ b → is_field_end d c ≡ true
@@ -84,7 +84,7 @@ second-of d c e = by (c == d) refl
 first-of : (d c : ℕ) → (c == d) ≡ true → is_field_end d c ≡ true
 first-of d c e = rw e refl
 
-not-first : (d c : ℕ) → is_field_end d c ≡ true → (c == d) ≡ false → (c == line_feed) ≡ true
+pub not-first : (d c : ℕ) → is_field_end d c ≡ true → (c == d) ≡ false → (c == line_feed) ≡ true
 not-first d c e other = rw other at e
 
 -- ---- marks of the bytes that end a field
@@ -188,6 +188,9 @@ module _ (d : ℕ) (text : List ℕ) where
         h.before (from + j) (omega arith) (omega (arith, b))
         (first-of d (get_or text (from + j) 0) (ap (λ c. c == d) (sym (at-line j (omega (arith, b, l)))) ∙ p))
 
+    pub last-field : EndsRun (is_field_end d) text from e → line_fields d line ≡ line ∷ []
+    last-field h = one-field d line (λ j a b p. none-up-to e (omega arith) h j a (omega (arith, b, size)) p)
+
     pub one-part : EndsRun (is_field_end d) text from e → Some (line, None) ≡ parts_of (line_fields d line)
     one-part h = parts-one d line (λ j a b p. none-up-to e (omega arith) h j a (omega (arith, b, size)) p)
 
@@ -227,22 +230,28 @@ module _ (d : ℕ) (text : List ℕ) where
       key-within : k - from < length line
       key-within = omega (arith, size, more, h.after)
 
+      behind-key : drop (k - from + 1) line ≡ slice_range text (k + 1) e
+      behind-key =
+          let sum : k - from + 1 + (e - (k + 1)) ≡ e - from = omega (arith, h.after, more) in
+          let at : from + (k - from + 1) ≡ k + 1 = omega (arith, h.after) in
+          ap (λ n. drop (k - from + 1) (take n (drop from text))) (sym sum)
+          ∙ drop-take (k - from + 1) (e - (k + 1)) (drop from text)
+          ∙ ap (take (e - (k + 1))) (drop-drop (k - from + 1) from text ∙ ap (λ n. drop n text) at)
+
+      -- the first field, and those behind it
+      pub first-part : line_fields d line ≡ slice_range text from k ∷ line_fields d (slice_range text (k + 1) e)
+      first-part =
+          first-field d line (k - from) key-within before-key here
+          ∙ ap (λ (f : List ℕ). f ∷ line_fields d (drop (k - from + 1) line)) key
+          ∙ ap (λ (l : List ℕ). slice_range text from k ∷ line_fields d l) behind-key
+
       pub two-parts : EndsRun (is_field_end d) text (k + 1) e
           → Some (slice_range text from k, Some (slice_range text (k + 1) e)) ≡ parts_of (line_fields d line)
       two-parts g =
           let parts = parts-two d line (k - from) key-within before-key here
           (λ j a b p. none-behind e (omega arith) g j a (omega (arith, b, size-rest)) p) in
-          let field : rest ≡ slice_range text (k + 1) e = field-is in
+          let field : rest ≡ slice_range text (k + 1) e = rest-all line (k - from + 1) ∙ behind-key in
           rw (key, field) at parts
-        where
-          field-is : rest ≡ slice_range text (k + 1) e
-          field-is =
-              let sum : k - from + 1 + (e - (k + 1)) ≡ e - from = omega (arith, h.after, more) in
-              let at : from + (k - from + 1) ≡ k + 1 = omega (arith, h.after) in
-              rest-all line (k - from + 1)
-              ∙ ap (λ n. drop (k - from + 1) (take n (drop from text))) (sym sum)
-              ∙ drop-take (k - from + 1) (e - (k + 1)) (drop from text)
-              ∙ ap (take (e - (k + 1))) (drop-drop (k - from + 1) from text ∙ ap (λ n. drop n text) at)
 
       pub more-parts : (m : ℕ) → m < e → EndsRun (is_field_end d) text (k + 1) m → (get_or text m 0 == d) ≡ true
           → ◌≡◌ {A = Parts} None (parts_of (line_fields d line))

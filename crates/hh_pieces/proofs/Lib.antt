@@ -1,4 +1,5 @@
 pub mod ChunkFacts
+pub mod ColumnFacts
 pub mod CutFacts
 pub mod CutTextFacts
 pub mod FieldFacts

@@ -1,25 +1,29 @@
 -- The records of a text without quotes, or where a quote is a byte as any other, line by line.
 use Rattle.std.proofs.Common.{◌≡◌, ◌⊎◌, ◌∷◌, ◌++◌, ◌∙◌, inl, inr, ℕ, List, [], get_or, map, Bool, true, false, Option, Some, None, refl, sym, ap, append-nil, append_assoc}
-use Rattle.std.specs.Prelude.{◌==◌, ◌&&◌, not, option_map, if◌then◌else◌}
+use Rattle.std.specs.Prelude.{◌==◌, ◌&&◌, ◌||◌, not, option_and_then, option_map, if◌then◌else◌}
 use Rattle.std.specs.Bool.{OnTrue}
+use Rattle.std.specs.Option.{option_zip}
 use Rattle.std.specs.List.{AllByRecursion, join_with_byte, onto_first, slice_split}
 use Rattle.std.proofs.lemmas.List.Splits.{join_with_byte-slice_split}
 use Rattle.std.proofs.lemmas.Simd.{map-map}
 use Rattle.std.proofs.lemmas.Bool.{eqb-true, false≢true}
-use Rattle.csv.specs.Machine.{step, after_end}
+use Rattle.csv.specs.Machine.{after_end, carriage_return, line_feed, step}
 use Rattle.csv.specs.declared.parser.Config.{Config}
 use Rattle.csv.specs.declared.parser.State.{State}
 use Rattle.csv.specs.declared.parser.State.TheVariants as st
-use Rattle.hh_records.specs.Formats.{Names, byte_between, fields_by, is_whole_field, part_said}
-use Rattle.hh_records.specs.Layouts.{Places, by_columns, columns_among, configured, field_names, headed_parts, member_names, names_columns, parts_at, parts_by, places_in, rows_in}
+use Rattle.csv.specs.Records.{field_at}
+use Rattle.hh_records.specs.Formats.{Names, Part, byte_between, fields_by, is_whole_field, part_of, part_said, with_part}
+use Rattle.hh_records.specs.Layouts.{Places, by_columns, columns_among, configured, every, field_names, headed_parts, key_of, member_names, names_columns, parts_at, parts_by, places_in, rows_in, weight_at}
 use Rattle.hh_records.specs.declared.layout.Layout.{Layout}
-use Rattle.hh_records.proofs.FormatFacts.{whole-parts}
+use Rattle.hh_records.proofs.FormatFacts.{with-whole}
 use Rattle.hh_pieces.specs.Pieces.{piece_parts}
 use Rattle.hh_records.specs.declared.format.Format.{Format}
 use Rattle.hh_records.specs.declared.format.Format.TheVariants as format
 use Rattle.hh_pieces.specs.Laws.{UnquotedTextsAreSplit}
-use Rattle.hh_pieces.specs.Lines.{IsUnquoted, filled, is_line_end, is_separator, line_fields, parts_in_line, separator_of}
-use Rattle.hh_records.specs.Streams.{Fields, Parts, parts_of}
+use Rattle.hh_pieces.specs.Lines.{CutsWithin, IsUnquoted, cut_of, filled, is_line_end, is_separator, key_parts, line_fields, line_parts, parts_in_columns}
+use Rattle.hh_pieces.specs.declared.lines.FieldPlaces.{FieldPlaces}
+use Rattle.hh_pieces.specs.declared.lines.LineCut.TheVariants as cut
+use Rattle.hh_records.specs.Streams.{Fields, Parts}
 use Rattle.hh_pieces.proofs.CutFacts.{runs, runs-all}
 
 -- these bytes before the first of some fields
@@ -196,55 +200,47 @@ module _ (names : Names) where
   one-field (x ∷ []) = ap (λ (l : List ℕ). l ∷ []) (append-nil x)
   one-field (x ∷ y ∷ rest) = ap (λ (fs : Fields). (x ++ 0 ∷ get_or fs 0 []) ∷ []) (one-field (y ∷ rest))
 
-  -- the keys and the weights' fields of lines, where each is one field
-  pub lines-joined : (lines : List (List ℕ))
-      → map (λ r. parts_of (fields_by format.Lines names r)) (map (line_fields 0) lines) ≡ map (parts_in_line None) lines
-  lines-joined [] = refl
-  lines-joined (line ∷ lines) =
-      let all : fields_by format.Lines names (line_fields 0 line) ≡ line ∷ [] =
-      one-field (line_fields 0 line) ∙ ap (λ (l : List ℕ). l ∷ []) (join_with_byte-slice_split 0 line) in
-      ap (λ (r : Fields). parts_of r ∷ map (λ r. parts_of (fields_by format.Lines names r)) (map (line_fields 0) lines)) all
-      ∙ ap (λ (ps : List Parts). Some (line, None) ∷ ps) (lines-joined lines)
+  module _ (part : Part) where
+    -- the keys and the weights' fields of lines, where each is one field
+    pub lines-joined : (lines : List (List ℕ))
+        → map (λ r. parts_by None part (fields_by format.Lines names r)) (map (line_fields 0) lines) ≡ map (line_parts part cut.Whole) lines
+    lines-joined [] = refl
+    lines-joined (line ∷ lines) =
+        let all : fields_by format.Lines names (line_fields 0 line) ≡ line ∷ [] =
+        one-field (line_fields 0 line) ∙ ap (λ (l : List ℕ). l ∷ []) (join_with_byte-slice_split 0 line) in
+        ap (λ (r : Fields). parts_by None part r ∷ map (λ r. parts_by None part (fields_by format.Lines names r)) (map (line_fields 0) lines)) all
+        ∙ ap (λ (ps : List Parts). line_parts part cut.Whole line ∷ ps) (lines-joined lines)
 
-  -- and where a line is cut at each delimiter
-  pub lines-cut : (f : Format) (d : ℕ) → (f ≡ format.Csv) ⊎ (f ≡ format.Unquoted) → (lines : List (List ℕ))
-      → map (λ r. parts_of (fields_by f names r)) (map (line_fields (byte_between f d)) lines)
-      ≡ map (parts_in_line (separator_of f d)) lines
-  lines-cut f d (inl csv) lines = rw csv (map-map parts_of (line_fields d) lines)
-  lines-cut f d (inr unquoted) lines = rw unquoted (map-map parts_of (line_fields d) lines)
+    -- and where a line is cut at each delimiter
+    pub lines-cut : (f : Format) (d : ℕ) → (f ≡ format.Csv) ⊎ (f ≡ format.Unquoted) → (lines : List (List ℕ))
+        → map (λ r. parts_by None part (fields_by f names r)) (map (line_fields (byte_between f d)) lines)
+        ≡ map (line_parts part (cut_of f d)) lines
+    lines-cut f d (inl csv) lines = rw csv (map-map (parts_by None part) (line_fields d) lines)
+    lines-cut f d (inr unquoted) lines = rw unquoted (map-map (parts_by None part) (line_fields d) lines)
 
 -- ---- records that are read without columns
 -- the records of a piece are the keys and the weights of its fields, by some names of members
 abbrev ReadsPairs : Layout → Option Places → List ℕ → Type 0
 ReadsPairs layout columns bytes = (names : Names)
-    × (piece_parts layout columns bytes ≡ Some (map (λ r. parts_of (fields_by layout.format names r)) (rows_in layout bytes)))
-
--- the parts of records that are read so
-pairs-of : (at : Places) (rows : List Fields) → at.columns ≡ None → is_whole_field at.part ≡ true
-    → map (parts_at at) rows ≡ map (λ r. parts_of (fields_by at.format at.names r)) rows
-pairs-of at [] none whole = refl
-pairs-of at (r ∷ rows) none whole =
-    let one : parts_at at r ≡ parts_of (fields_by at.format at.names r) =
-    ap (λ columns. parts_by columns at.part (fields_by at.format at.names r)) none
-    ∙ whole-parts at.part (fields_by at.format at.names r) whole in
-    ap (λ (p : Parts). p ∷ map (parts_at at) rows) one
-    ∙ ap (λ (ps : List Parts). parts_of (fields_by at.format at.names r) ∷ ps) (pairs-of at rows none whole)
+    × (piece_parts layout columns bytes
+    ≡ Some (map (λ r. parts_by None (part_said layout.part) (fields_by layout.format names r)) (rows_in layout bytes)))
 
 -- those of a later piece
 pub piece-pairs : (b : Bool) (layout : Layout) (at : Places) (bytes : List ℕ)
-    → OnTrue b ((at.columns ≡ None) × (is_whole_field at.part ≡ true) × (at.format ≡ layout.format))
+    → OnTrue b ((at.columns ≡ None) × (at.part ≡ part_said layout.part) × (at.format ≡ layout.format))
     → OnTrue b (ReadsPairs layout (Some at) bytes)
 piece-pairs false layout at bytes h = tt
-piece-pairs true layout at bytes h = (
-  at.names,
-  ap Some (pairs-of at (rows_in layout bytes) h.0 h.1)
-      ∙ ap (λ f. Some (map (λ r. parts_of (fields_by f at.names r)) (rows_in layout bytes))) h.2,
-)
+piece-pairs true layout at bytes h =
+    let rows = rows_in layout bytes in (
+      at.names,
+      ap (λ columns. Some (map (λ r. parts_by columns at.part (fields_by at.format at.names r)) rows)) h.0
+          ∙ ap (λ part. Some (map (λ r. parts_by None part (fields_by at.format at.names r)) rows)) h.1
+          ∙ ap (λ f. Some (map (λ r. parts_by None (part_said layout.part) (fields_by f at.names r)) rows)) h.2,
+    )
 
 -- and those of a text without a header
 pub text-pairs : (b : Bool) (layout : Layout) (bytes : List ℕ)
-    → OnTrue b ((layout.has_header ≡ false) × (names_columns layout ≡ false)
-    × (is_whole_field (part_said layout.part) ≡ true))
+    → OnTrue b ((layout.has_header ≡ false) × (names_columns layout ≡ false))
     → OnTrue b (ReadsPairs layout None bytes)
 text-pairs false layout bytes h = tt
 text-pairs true layout bytes h =
@@ -252,6 +248,72 @@ text-pairs true layout bytes h =
     let columns : columns_among layout (field_names layout []) ≡ Some None = rw h.1 refl in (
       member_names layout,
       ap (λ b. if b then headed_parts layout rows else option_map (λ at. map (parts_at at) rows) (places_in layout [])) h.0
-          ∙ ap (λ o. option_map (λ at. map (parts_at at) rows) (option_map (by_columns layout) o)) columns
-          ∙ ap Some (pairs-of (by_columns layout None) rows refl h.2),
+          ∙ ap (λ o. option_map (λ at. map (parts_at at) rows) (option_map (by_columns layout) o)) columns,
     )
+
+-- ---- how lines are cut
+-- at a separator none ends
+separator-differs : (d : ℕ) → is_separator d ≡ true → (d == line_feed) ≡ false
+separator-differs d h = by (d == carriage_return) (d == line_feed) (separator-ends-none d h)
+  where
+    by : (a b : Bool) → (a || b) ≡ false → b ≡ false
+    by a false e = refl
+    by true true e = absurd (false≢true (sym e))
+    by false true e = absurd (false≢true (sym e))
+
+pub cut-within : (f : Format) (d : ℕ) → is_separator (byte_between f d) ≡ true → CutsWithin (cut_of f d)
+cut-within format.Csv d h = separator-differs d h
+cut-within format.Unquoted d h = separator-differs d h
+cut-within format.Squeezed d h = separator-differs d h
+cut-within format.Lines d h = tt
+cut-within format.Json d h = tt
+
+-- ---- parts of keys
+-- the whole field
+whole-field : (f : List ℕ) → part_of ([], None) f ≡ f
+unfolding with_part
+whole-field f = ap (λ fs. get_or fs 0 []) (with-whole ([], None) (f ∷ []) refl)
+
+whole-is : (part : Part) → is_whole_field part ≡ true → part ≡ ([], None)
+whole-is ([], None) e = refl
+whole-is ([], Some n) e = cc e
+whole-is (b ∷ until, prefix) e = cc e
+
+-- in place of the key
+pub whole-key : (part : Part) (p : Parts) → is_whole_field part ≡ true → p ≡ key_parts part p
+whole-key part None e = refl
+whole-key part (Some (k, f)) e = ap (λ (key : List ℕ). Some (key, f)) (sym (ap (λ part. part_of part k) (whole-is part e) ∙ whole-field k))
+
+-- a part of the key in one column
+column-key : (part : Part) (r : Fields) (key : ℕ) (weight : Option ℕ)
+    → parts_by (Some (key ∷ [], weight)) part r ≡ key_parts part (parts_in_columns key weight r)
+unfolding every with_part
+column-key part r key weight = by (field_at r key) (weight_at r weight)
+  where
+    by : (o : Option (List ℕ)) (w : Option (Option (List ℕ)))
+        → option_zip (option_map (λ fs. key_of (with_part part fs)) (option_and_then (λ y. option_map (λ ys. y ∷ ys) (Some [])) o)) w
+        ≡ key_parts part (option_zip (option_map (λ fs. key_of (with_part ([], None) fs)) (option_and_then (λ y. option_map (λ ys. y ∷ ys) (Some [])) o)) w)
+    by None w = refl
+    by (Some f) None = refl
+    by (Some f) (Some g) = ap (λ (k : List ℕ). Some (part_of part k, g)) (sym (whole-field f))
+
+-- the parts of lines that are read by the columns of a key and of a weight
+pub lines-columns : (layout : Layout) (places : Places) (at : FieldPlaces) → (layout.format ≡ format.Csv) ⊎ (layout.format ≡ format.Unquoted)
+    → (places.columns ≡ Some (at.key ∷ [], at.weight)) × (places.part ≡ part_said layout.part) × (places.format ≡ layout.format)
+    → (lines : List (List ℕ))
+    → map (parts_at places) (map (line_fields (byte_between layout.format layout.delimiter)) lines)
+    ≡ map (line_parts (part_said layout.part) (cut.Columns layout.delimiter at)) lines
+lines-columns layout places at split h [] = refl
+lines-columns layout places at split h (line ∷ lines) = rw (one split) (rw (lines-columns layout places at split h lines) refl)
+  where
+    by : (f : Format) → (f ≡ format.Csv) ⊎ (f ≡ format.Unquoted)
+        → fields_by f places.names (line_fields (byte_between f layout.delimiter) line) ≡ line_fields layout.delimiter line
+    by f (inl csv) = rw csv refl
+    by f (inr unquoted) = rw unquoted refl
+
+    one : (layout.format ≡ format.Csv) ⊎ (layout.format ≡ format.Unquoted)
+        → parts_at places (line_fields (byte_between layout.format layout.delimiter) line)
+        ≡ line_parts (part_said layout.part) (cut.Columns layout.delimiter at) line
+    one split =
+        rw (h.0, h.1, h.2, by layout.format split)
+        (column-key (part_said layout.part) (line_fields layout.delimiter line) at.key at.weight)

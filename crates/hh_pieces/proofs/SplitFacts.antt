@@ -1,19 +1,20 @@
 -- Lines and fields by the places of the bytes that end them.
-use Rattle.std.proofs.Common.{◌≡◌, ◌==◌, ◌≤◌, ◌<◌, ◌+◌, ◌-◌, ◌∷◌, ◌++◌, ◌∙◌, ℕ, suc, zero, List, [], length, map, take, drop, Bool, true, false, Option, Some, None, Ok, refl, sym, ap, arith, append-nil, append_assoc, length-append, length-drop}
-use Rattle.std.specs.Prelude.{if◌then◌else◌, slice_range}
-use Rattle.std.specs.List.{onto_first, position_or_len, slice_split}
+use Rattle.std.proofs.Common.{◌≡◌, ◌==◌, ◌≤◌, ◌<◌, ◌+◌, ◌-◌, ◌∷◌, ◌++◌, ◌∙◌, ℕ, suc, zero, List, [], length, map, take, drop, Bool, true, false, Some, None, Ok, refl, sym, ap, arith, append-nil, append_assoc, length-append, length-drop}
+use Rattle.std.specs.Prelude.{◌||◌, if◌then◌else◌, slice_range}
+use Rattle.std.specs.List.{AllByRecursion, onto_first, position_or_len, slice_split}
+use Rattle.std.proofs.lemmas.Bool.{false≢true}
 use Rattle.std.proofs.lemmas.List.{drop-drop, drop_all, length-map, length-take-le, map-append}
 use Rattle.std.proofs.lemmas.List.Splits.{slice_split_first}
 use Rattle.std.proofs.Math.Seq.{take-length}
 use native.Mathlib.Decide.{dec_lt}
-use Rattle.csv.specs.Machine.{line_feed}
+use Rattle.csv.specs.Machine.{carriage_return, line_feed}
 use Rattle.memchr.specs.Find.{NoneBefore, Nowhere, Passes, is_byte}
 use Rattle.hh_stream.specs.Weights.{Entry, total_of}
 use Rattle.hh_faults.specs.declared.records.TextError.{TextError}
 use Rattle.hh_faults.specs.declared.records.TextError.TheVariants as error
 use Rattle.hh_records.specs.declared.layout.Layout.{Layout}
 use Rattle.hh_records.specs.Layouts.{RecordRefused, RowsRefused, adds, items_after}
-use Rattle.hh_pieces.specs.Lines.{HasNoReturn, filled, filled_lines, is_line_end, line_end, line_fields, parts_in_line}
+use Rattle.hh_pieces.specs.Lines.{HasNoReturn, filled, filled_lines, is_line_end, line_end, line_fields}
 use Rattle.hh_records.specs.Streams.{Fields, Parts, parts_of}
 use Rattle.hh_pieces.proofs.QuoteFacts.{rest-all}
 use Rattle.hh_records.proofs.FormatFacts.{first-place, none-place}
@@ -43,7 +44,33 @@ module _ (test : ℕ → Bool) where
       by false [] = (c ∷ [], [], refl)
       by false (g ∷ more) = (c ∷ g, more, refl)
 
+  -- before that place none does
+  pub none-passes : (hay : List ℕ) → AllByRecursion (λ c. test c ≡ false) (take (position_or_len test hay) hay)
+  none-passes [] = tt
+  none-passes (c ∷ rest) = by (test c) refl (none-passes rest)
+    where
+      by : (b : Bool) → test c ≡ b → AllByRecursion (λ c. test c ≡ false) (take (position_or_len test rest) rest)
+          → AllByRecursion (λ c. test c ≡ false) (take (position_or_len test (c ∷ rest)) (c ∷ rest))
+      by true is more = rw is tt
+      by false is more =
+          let next : 1 + position_or_len test rest ≡ suc (position_or_len test rest) = omega arith in
+          rw (is, next) (is, more)
+
+  -- and of a text where none does, that is the length
+  pub none-length : (hay : List ℕ) → AllByRecursion (λ c. test c ≡ false) hay → position_or_len test hay ≡ length hay
+  none-length [] none = refl
+  none-length (c ∷ rest) none = rw (none.0, none-length rest none.1) (omega arith)
+
 -- ---- texts without CR
+-- a byte that ends no line
+ends-none : (text : List ℕ) → AllByRecursion (λ c. is_line_end c ≡ false) text → HasNoReturn text
+ends-none [] none = tt
+ends-none (c ∷ rest) none = (by (c == carriage_return) (c == line_feed) none.0, ends-none rest none.1)
+  where
+    by : (a b : Bool) → (a || b) ≡ false → a ≡ false
+    by false b e = refl
+    by true b e = absurd (false≢true (sym e))
+
 -- what follows in such a text has none either
 pub no-return-after : (n : ℕ) (text : List ℕ) → HasNoReturn text → HasNoReturn (drop n text)
 no-return-after zero text none = none
@@ -63,15 +90,19 @@ ends-at-feeds (c ∷ rest) none = by (c == line_feed) refl (ends-at-feeds rest n
 
 -- ---- the key and the weight's field of a line
 module _ (d : ℕ) (line : List ℕ) where
+  -- it is one field where no delimiter is in it
+  pub one-field : Nowhere (Passes (is_byte d) line) 0 (length line) → line_fields d line ≡ line ∷ []
+  one-field none = split-none (is_byte d) line (none-place (is_byte d) line none)
+
   pub parts-one : Nowhere (Passes (is_byte d) line) 0 (length line) → Some (line, None) ≡ parts_of (line_fields d line)
-  parts-one none = rw (split-none (is_byte d) line (none-place (is_byte d) line none)) refl
+  parts-one none = rw (one-field none) refl
 
   module _ (end : ℕ) (within : end < length line) (none : Nowhere (Passes (is_byte d) line) 0 end)
       (here : Passes (is_byte d) line end) where
-    abbrev behind : List ℕ
+    abbrev pub behind : List ℕ
     behind = drop (end + 1) line
 
-    first-field : line_fields d line ≡ take end line ∷ line_fields d behind
+    pub first-field : line_fields d line ≡ take end line ∷ line_fields d behind
     first-field =
         let at = first-place (is_byte d) line end within none here in
         let parts = slice_split_first (is_byte d) line 0 (omega (arith, within, at)) in
@@ -155,10 +186,30 @@ module _ (text : List ℕ) (from end : ℕ) (order : from ≤ end) (within : end
       by [] l = absurd (omega (arith, l))
       by (c ∷ line) l = refl
 
+-- ---- a line by itself
+module _ (text : List ℕ) (from end : ℕ) (is : end ≡ line_end text from) where
+  abbrev alone : List ℕ
+  alone = slice_range text from end
+
+  alone-plain : AllByRecursion (λ c. is_line_end c ≡ false) alone
+  alone-plain =
+      let run : end - from ≡ position_or_len is_line_end (drop from text) = omega (arith, is) in
+      rw run (none-passes is_line_end (drop from text))
+
+  pub alone-no-return : HasNoReturn alone
+  alone-no-return = ends-none alone alone-plain
+
+  -- it ends where it does
+  pub alone-whole : (e : ℕ) → e ≡ line_end alone 0 → slice_range alone 0 e ≡ alone
+  alone-whole e at =
+      let all = none-length is_line_end alone alone-plain in
+      let size : e ≡ length alone = omega (arith, at, all) in
+      ap (λ n. slice_range alone 0 n) size ∙ rest-all alone 0
+
 -- ---- the lines read so far
-module _ (layout : Layout) (separator : Option ℕ) (t : ℕ) (text : List ℕ) where
+module _ (layout : Layout) (read : List ℕ → Parts) (t : ℕ) (text : List ℕ) where
   abbrev parts : List (List ℕ) → List Parts
-  parts lines = map (parts_in_line separator) lines
+  parts lines = map read lines
 
   -- so many lines before a place were read, and add these items
   pub record LinesRead (from : ℕ) (xs : List Entry) (number : ℕ) : Type 0 where
@@ -170,12 +221,6 @@ module _ (layout : Layout) (separator : Option ℕ) (t : ℕ) (text : List ℕ) 
   pub lines-none : LinesRead 0 [] 0
   unfolding items_after
   lines-none = record { lines = []; all = refl; items = refl; count = refl }
-
-  -- all of them
-  pub lines-end : (from : ℕ) (xs : List Entry) (number : ℕ) → length text ≤ from → LinesRead from xs number
-      → items_after layout 1 t (parts (filled_lines text)) ≡ Ok xs
-  lines-end from xs number end so_far =
-      rw (so_far.all, drop_all from text end, append-nil so_far.lines) so_far.items
 
   module _ (from end : ℕ) (xs : List Entry) (number : ℕ) (order : from ≤ end) (within : end ≤ length text)
       (is : end ≡ line_end text from) (so_far : LinesRead from xs number) where
@@ -196,40 +241,40 @@ module _ (layout : Layout) (separator : Option ℕ) (t : ℕ) (text : List ℕ) 
     all-lines some =
         so_far.all ∙ ap (λ (ls : List (List ℕ)). so_far.lines ++ ls) (line-some text from end order within is some)
 
-    pub lines-more : from < end → (es : List Entry) → adds layout (t + total_of xs) (parts_in_line separator line) ≡ Ok es
+    pub lines-more : from < end → (es : List Entry) → adds layout (t + total_of xs) (read line) ≡ Ok es
         → LinesRead (end + 1) (xs ++ es) (number + 1)
     unfolding items_after
     lines-more some es j =
         let size = length-append so_far.lines (line ∷ []) in
-        let all : parts (so_far.lines ++ line ∷ []) ≡ parts so_far.lines ++ parts_in_line separator line ∷ [] =
-        map-append (parts_in_line separator) so_far.lines (line ∷ []) in
+        let all : parts (so_far.lines ++ line ∷ []) ≡ parts so_far.lines ++ read line ∷ [] =
+        map-append read so_far.lines (line ∷ []) in
         record {
           lines = so_far.lines ++ line ∷ [];
           all = all-lines some ∙ sym (append_assoc so_far.lines (line ∷ []) (filled_lines (drop (end + 1) text)));
           items = rw (
             all,
-            items-more layout 1 t xs (parts so_far.lines) (parts_in_line separator line ∷ []) so_far.items,
+            items-more layout 1 t xs (parts so_far.lines) (read line ∷ []) so_far.items,
             j,
             append-nil es,
           ) refl;
           count = omega (arith, size, so_far.count);
         }
 
-    pub lines-refused : from < end → (x : TextError) → RecordRefused (number + 1) (adds layout (t + total_of xs) (parts_in_line separator line)) x
+    pub lines-refused : from < end → (x : TextError) → RecordRefused (number + 1) (adds layout (t + total_of xs) (read line)) x
         → RowsRefused layout 0 t (Some (parts (filled_lines text))) x
     unfolding items_after
     lines-refused some error.Memory j = tt
     lines-refused some (error.BadRecord l x) (same, j) =
         let left = filled_lines (drop (end + 1) text) in
-        let all : parts (so_far.lines ++ line ∷ left) ≡ parts so_far.lines ++ parts_in_line separator line ∷ parts left =
-        map-append (parts_in_line separator) so_far.lines (line ∷ left) in
-        let size = length-map so_far.lines (parts_in_line separator) in
+        let all : parts (so_far.lines ++ line ∷ left) ≡ parts so_far.lines ++ read line ∷ parts left =
+        map-append read so_far.lines (line ∷ left) in
+        let size = length-map so_far.lines read in
         let place : 1 + length (parts so_far.lines) ≡ number + 1 = omega (arith, size, so_far.count) in
         rw (
           same,
           all-lines some,
           all,
-          items-more layout 1 t xs (parts so_far.lines) (parts_in_line separator line ∷ parts left) so_far.items,
+          items-more layout 1 t xs (parts so_far.lines) (read line ∷ parts left) so_far.items,
           j,
           place,
         ) refl

@@ -6,6 +6,7 @@ ghost use Rattle.csv.specs.Machine.{line_feed};
 ghost use Rattle.memchr.specs.Find.{is_byte};
 ghost use Rattle.hh_pieces.specs.Lines as spec;
 ghost use Rattle.hh_pieces.specs.Lines.{EndsRun, HasNoReturn, is_field_end, parts_in_line};
+ghost use Rattle.hh_pieces.specs.declared.lines.LineCut.TheVariants.{Pair};
 
 use memchr::{memchr, memchr2};
 use std::simd::prelude::*;
@@ -36,7 +37,7 @@ fn lowest(bits: u64) -> usize
 }
 
 /// Finds the first line feed from `from` on, or where the text ends.
-fn feed_from(text: &[u8], from: usize) -> usize
+pub(crate) fn feed_from(text: &[u8], from: usize) -> usize
     requires within { from ≤ length text.now }
     ensures { EndsRun (is_byte line_feed) text.now from result }
 {
@@ -60,7 +61,7 @@ fn far_end(text: &[u8], from: usize, delimiter: u8) -> usize
 /// Finds where the field ends that begins at `from`: at a delimiter, at LF or with the text. Most
 /// fields end near.
 #[inline(always)]
-fn field_end(text: &[u8], from: usize, delimiter: u8) -> usize
+pub(crate) fn field_end(text: &[u8], from: usize, delimiter: u8) -> usize
     requires within { from ≤ length text.now }
     ensures { EndsRun (is_field_end delimiter) text.now from result }
 {
@@ -88,7 +89,7 @@ pub(crate) fn line_at(
     ensures after { from ≤ result.1 }
     ensures within { result.1 ≤ length text.now }
     ensures parts { option_map (λ parts. (parts.0.now, option_map (λ field. field.now) parts.1)) result.0
-        ≡ parts_in_line (Some delimiter) (slice_range text.now from result.1) }
+        ≡ parts_in_line (Pair delimiter) (slice_range text.now from result.1) }
 {
     let key_end = field_end(text, from, delimiter);
     if key_end == text.len() || text[key_end] != delimiter {

@@ -5,10 +5,12 @@
 #![tactic(auto)]
 
 mod chunks;
+mod columns;
 mod cut_files;
 mod cuts;
 mod fields;
 mod growing;
+mod key_parts;
 pub mod laws;
 mod lines;
 mod pieces;

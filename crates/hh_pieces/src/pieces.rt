@@ -1,21 +1,21 @@
 //! Pieces of a text of records, each of which is read by itself.
 
 ghost use Rattle.std.specs.Bool.{OnTrue};
-ghost use Rattle.std.specs.Prelude.{◌≡◌, ◌≤◌, ℕ, List, None, Ok, Some, false, true, map, IfOk, IfErr, IfSome, OnOk, option_and_then, option_map};
+ghost use Rattle.std.specs.Prelude.{◌≡◌, ◌≤◌, ◌∷◌, ℕ, List, [], None, Ok, Some, false, true, map, IfOk, IfErr, IfSome, OnOk, option_and_then, option_map};
 ghost use Rattle.hh_stream.specs.Weights.{max_total};
 ghost use Rattle.hh_stream.specs.Taking.{Takes};
 ghost use Rattle.hh_records.specs.Layouts.{IsText, OpenRefused, Opens, Places, chosen_places};
-ghost use Rattle.hh_records.specs.Layouts.{names_columns, parts_left, text_parts};
-ghost use Rattle.hh_records.specs.Formats.{Names, byte_between, fields_by, is_whole_field, part_said};
+ghost use Rattle.hh_records.specs.Layouts.{names_columns, parts_at, parts_by, parts_left, text_parts};
+ghost use Rattle.hh_records.specs.Formats.{Names, Part, byte_between, fields_by, part_said};
 ghost use Rattle.hh_records.specs.Layouts.{chosen_columns};
 ghost use Rattle.hh_pieces.specs.Lines as spec;
-ghost use Rattle.hh_pieces.specs.Lines.{filled_lines, parts_in_line};
+ghost use Rattle.hh_pieces.specs.Lines.{CutsWithin, filled_lines, line_parts};
 ghost use Rattle.hh_pieces.specs.Pieces.{PieceRefused, piece_parts, piece_reading};
 ghost use Rattle.hh_records.specs.Layouts.{FindsColumns, rows_in};
-ghost use Rattle.hh_records.specs.Streams.{parts_of};
 
 use crate::cuts::mark_len;
-use crate::lines::{is_separator, read_lines, sees_no_quote, separator_of};
+use crate::key_parts::is_same_part;
+use crate::lines::{FieldPlaces, LineCut, cut_of, is_separator, read_lines, sees_no_quote};
 use csv::ReaderBuilder;
 use hh_faults::TextError;
 use hh_records::retrying::Retrying;
@@ -132,39 +132,41 @@ fn open_piece<R: Read + Drop>(
     }
 }
 
-/// Whether records in this `format` that `chosen` reads are keys and weights, or keys alone.
-fn chooses_no_columns(chosen: &ChosenLayout, format: Format) -> bool
-    ensures { OnTrue result ((chosen_columns chosen.now.columns ≡ None)
-        × (is_whole_field (part_said chosen.now.part) ≡ true) × (chosen.now.format ≡ format)) }
+/// Whether `chosen` reads records as `layout` says, but for columns.
+fn is_chosen_for(chosen: &ChosenLayout, layout: &Layout) -> bool
+    ensures { OnTrue result ((part_said chosen.now.part ≡ part_said layout.now.part)
+        × (chosen.now.format ≡ layout.now.format)) }
 {
-    if chosen.columns.is_some() || chosen.format != format {
-        return false;
-    }
-    chosen.part.is_whole()
+    chosen.format == layout.format && is_same_part(&chosen.part, &layout.part)
+}
+
+/// Whether records that `chosen` reads as `layout` says are keys and weights, or keys alone.
+fn chooses_no_columns(chosen: &ChosenLayout, layout: &Layout) -> bool
+    ensures { OnTrue result ((chosen_columns chosen.now.columns ≡ None)
+        × (part_said chosen.now.part ≡ part_said layout.now.part)
+        × (chosen.now.format ≡ layout.now.format)) }
+{
+    chosen.columns.is_none() && is_chosen_for(chosen, layout)
 }
 
 /// Whether the records of a text that `layout` reads, from the first one on, are keys and weights,
 /// or keys alone.
 fn names_no_columns(layout: &Layout) -> bool
     ensures { OnTrue result ((layout.now.has_header ≡ false)
-        × (names_columns layout.now ≡ false)
-        × (is_whole_field (part_said layout.now.part) ≡ true)) }
+        × (names_columns layout.now ≡ false)) }
 {
-    if layout.has_header || !layout.key.is_empty() || layout.weight.is_some() {
-        return false;
-    }
-    layout.part.is_whole()
+    !layout.has_header && layout.key.is_empty() && layout.weight.is_none()
 }
 
 /// Whether the records of a piece of a text are keys and weights, or keys alone.
 fn has_pairs(layout: &Layout, columns: Option<&Columns>) -> bool
     ensures { (bytes : List ℕ) → OnTrue result ((names : Names)
         × (piece_parts layout.now (option_map (λ c. c.now) columns.entry) bytes
-        ≡ Some (map (λ r. parts_of (fields_by layout.now.format names r))
-        (rows_in layout.now bytes)))) }
+        ≡ Some (map (λ r. parts_by None (part_said layout.now.part)
+        (fields_by layout.now.format names r)) (rows_in layout.now bytes)))) }
 {
     match columns {
-        Some(columns) => chooses_no_columns(&columns.chosen, layout.format),
+        Some(columns) => chooses_no_columns(&columns.chosen, layout),
         None => names_no_columns(layout),
     }
 }
@@ -174,10 +176,10 @@ fn has_pairs(layout: &Layout, columns: Option<&Columns>) -> bool
 fn has_plain_lines(layout: &Layout) -> bool
     ensures separated { OnTrue result
         (spec.is_separator (byte_between layout.now.format layout.now.delimiter) ≡ true) }
-    ensures parts { OnTrue result ((names : Names) (lines : List (List ℕ)) →
-        map (λ r. parts_of (fields_by layout.now.format names r))
+    ensures parts { OnTrue result ((part : Part) (names : Names) (lines : List (List ℕ)) →
+        map (λ r. parts_by None part (fields_by layout.now.format names r))
         (map (spec.line_fields (byte_between layout.now.format layout.now.delimiter)) lines)
-        ≡ map (parts_in_line (spec.separator_of layout.now.format layout.now.delimiter)) lines) }
+        ≡ map (line_parts part (spec.cut_of layout.now.format layout.now.delimiter)) lines) }
 {
     match layout.format {
         Format::Csv | Format::Unquoted => is_separator(layout.delimiter),
@@ -186,19 +188,112 @@ fn has_plain_lines(layout: &Layout) -> bool
     }
 }
 
-/// What stands after a byte order mark, where a piece of a text can be read line by line.
-fn plain_text<'t>(layout: &Layout, columns: Option<&Columns>, piece: &'t [u8]) -> Option<&'t [u8]>
-    ensures { IfSome result (λ text.
-        piece_parts layout.now (option_map (λ c. c.now) columns.entry) piece.now
-        ≡ Some (map (parts_in_line (spec.separator_of layout.now.format layout.now.delimiter))
-        (filled_lines text.now))) }
+/// Where the key and the weight's field stand of records that `chosen` reads as `layout` says, if
+/// the key is one field.
+fn field_places(chosen: &ChosenLayout, layout: &Layout) -> Option<FieldPlaces>
+    ensures { IfSome result (λ at.
+        (chosen_columns chosen.now.columns ≡ Some (at.key ∷ [], at.weight))
+        × (part_said chosen.now.part ≡ part_said layout.now.part)
+        × (chosen.now.format ≡ layout.now.format)) }
 {
+    if !is_chosen_for(chosen, layout) {
+        return None;
+    }
+    match &chosen.columns {
+        Some(columns) if columns.key.len() == 1 => Some(FieldPlaces {
+            key: columns.key[0],
+            weight: columns.weight,
+        }),
+        Some(_) | None => None,
+    }
+}
+
+/// How lines are cut whose fields are records that `columns` reads.
+fn column_cut(layout: &Layout, columns: &Columns) -> Option<LineCut>
+    ensures apart { spec.is_separator (byte_between layout.now.format layout.now.delimiter) ≡ true
+        → IfSome result CutsWithin }
+    ensures parts { IfSome result (λ cut. (lines : List (List ℕ)) → map (parts_at columns.now)
+        (map (spec.line_fields (byte_between layout.now.format layout.now.delimiter)) lines)
+        ≡ map (line_parts (part_said layout.now.part) cut) lines) }
+{
+    match layout.format {
+        Format::Csv | Format::Unquoted => match field_places(&columns.chosen, layout) {
+            Some(at) => Some(LineCut::Columns(layout.delimiter, at)),
+            None => None,
+        },
+        Format::Squeezed | Format::Lines | Format::Json => None,
+    }
+}
+
+/// How the lines of a piece are cut, where `csv` cuts it into lines but for its quotes.
+fn line_cut(layout: &Layout, columns: Option<&Columns>) -> Option<LineCut>
+    ensures separated { IfSome result (λ _.
+        spec.is_separator (byte_between layout.now.format layout.now.delimiter) ≡ true) }
+    ensures apart { IfSome result CutsWithin }
+    ensures parts { IfSome result (λ cut. (bytes : List ℕ) (lines : List (List ℕ)) →
+        rows_in layout.now bytes
+        ≡ map (spec.line_fields (byte_between layout.now.format layout.now.delimiter)) lines
+        → piece_parts layout.now (option_map (λ c. c.now) columns.entry) bytes
+        ≡ Some (map (line_parts (part_said layout.now.part) cut) lines)) }
+{
+    if !has_plain_lines(layout) {
+        return None;
+    }
+    if has_pairs(layout, columns) {
+        return Some(cut_of(layout.format, layout.delimiter));
+    }
+    match columns {
+        Some(columns) => column_cut(layout, columns),
+        None => None,
+    }
+}
+
+/// What stands after a byte order mark, and how its lines are cut, where a piece of a text can be
+/// read line by line.
+fn plain_text<'t>(
+    layout: &Layout,
+    columns: Option<&Columns>,
+    piece: &'t [u8],
+) -> Option<(&'t [u8], LineCut)>
+    ensures apart { IfSome result (λ text. CutsWithin text.1) }
+    ensures parts { IfSome result (λ text.
+        piece_parts layout.now (option_map (λ c. c.now) columns.entry) piece.now
+        ≡ Some (map (line_parts (part_said layout.now.part) text.1) (filled_lines text.0.now))) }
+{
+    let Some(cut) = line_cut(layout, columns) else {
+        return None;
+    };
     let text = &piece[mark_len(piece)..];
     let quoting = layout.format.has_quotes();
-    if has_pairs(layout, columns) && has_plain_lines(layout) && sees_no_quote(text, quoting) {
-        Some(text)
+    if sees_no_quote(text, quoting) {
+        Some((text, cut))
     } else {
         None
+    }
+}
+
+/// What stands after a byte order mark, and how its lines are cut, where a piece of a text can be
+/// read line by line: a first piece with no header by the columns that the layout names by number.
+fn piece_lines<'t>(
+    alloc: Global,
+    layout: &Layout,
+    columns: Option<&Columns>,
+    piece: &'t [u8],
+) -> Result<Option<(&'t [u8], LineCut)>, TextError>
+    ensures apart { IfOk result (λ found. IfSome found (λ text. CutsWithin text.1)) }
+    ensures parts { IfOk result (λ found. IfSome found (λ text.
+        piece_parts layout.now (option_map (λ c. c.now) columns.entry) piece.now
+        ≡ Some (map (line_parts (part_said layout.now.part) text.1) (filled_lines text.0.now)))) }
+    ensures refused { IfErr result (λ error. (total : ℕ) →
+        PieceRefused layout.now (option_map (λ c. c.now) columns.entry) piece.now total error) }
+{
+    if columns.is_some() || layout.has_header || names_no_columns(layout) {
+        return Ok(plain_text(layout, columns, piece));
+    }
+    match Columns::of_text(alloc, layout, piece) {
+        Ok(Some(own)) => Ok(plain_text(layout, Some(&own), piece)),
+        Ok(None) => Ok(None),
+        Err(error) => Err(error),
     }
 }
 
@@ -228,9 +323,8 @@ pub fn read_piece<T: TakeItems>(
 {
     // What was taken before is in range, as this call's clause says.
     let _ = taker.total();
-    if let Some(text) = plain_text(layout, columns, piece) {
-        let separator = separator_of(layout.format, layout.delimiter);
-        read_lines(alloc, text, separator, taker, bad, layout)?;
+    if let Some((text, cut)) = piece_lines(alloc, layout, columns, piece)? {
+        read_lines(alloc, text, cut, taker, bad, layout)?;
         return Ok(());
     }
     read_left(alloc, layout, columns, piece, bad, taker)

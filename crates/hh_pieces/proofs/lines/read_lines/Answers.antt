@@ -4,6 +4,8 @@ use Rattle.std.proofs.lemmas.List.Elements.{All-append, All-from_recursion}
 use Rattle.std.proofs.lemmas.List.Sums.{fold-append, sum_by-append}
 use Rattle.std.proofs.lemmas.Result.{err_from_is_err_and}
 use Rattle.hh_stream.specs.Weights.{Entry}
+use Rattle.hh_records.specs.Formats.{part_said}
+use Rattle.hh_pieces.specs.Lines.{line_parts}
 use Rattle.hh_pieces.proofs.SplitFacts.{lines-blank, lines-more, lines-none, lines-refused}
 use Rattle.hh_pieces.proofs.lines.read_lines.Goals as goal
 use Rattle.hh_pieces.proofs.lines.read_lines.Goals.{then-from-end+in_ok-take_parts, else-from-end}
@@ -21,7 +23,7 @@ loop-from-init g c = (
     omega arith,
     All-from_recursion Weighs [] tt,
     refl,
-    lines-none c.args.layout.now c.args.separator (g.T.TakeItems.weight_taken c.args.taker.now) c.args.text.now,
+    lines-none c.args.layout.now (line_parts (part_said c.args.layout.now.part) c.args.cut) (g.T.TakeItems.weight_taken c.args.taker.now) c.args.text.now,
   ),
 )
 
@@ -30,9 +32,9 @@ returns-in_err-take_parts-clause-refused g c =
     let p = err_from_is_err_and c.from_residual.result c.from_residual.ensures.1 in
     let (xs, total, weigh, made, so_far) = c.loop-from.invariant.2 in
     let line = c.parts_from-end.ensures in
-    rw (p.1, p.2) (lines-refused c.args.layout.now c.args.separator (g.T.TakeItems.weight_taken c.args.taker.now) c.args.text.now
+    rw (p.1, p.2) (lines-refused c.args.layout.now (line_parts (part_said c.args.layout.now.part) c.args.cut) (g.T.TakeItems.weight_taken c.args.taker.now) c.args.text.now
     c.loop-from.from c.parts_from-end.result.1 xs c.loop-from.number line.after line.within line.end so_far c.if-from-end.true
-    c.in_err-take_parts.field-0.0 (rw (← total) (rw line.parts at c.in_err-take_parts.ensures.refused)))
+    c.in_err-take_parts.field-0.0 (rw (← total) (rw (rw line.parts at c.key_parts-parts.ensures) at c.in_err-take_parts.ensures.refused)))
 
 pub loop-from-preserved : goal.loop-from-preserved
 loop-from-preserved g c =
@@ -50,9 +52,9 @@ loop-from-preserved g c =
               All-append Weighs xs t.xs weigh t.positive,
               t.taken ∙ ap (λ taker. fold g.T.TakeItems.with_item taker t.xs) made
                   ∙ sym (fold-append g.T.TakeItems.with_item c.args.taker.now xs t.xs),
-              lines-more c.args.layout.now c.args.separator (g.T.TakeItems.weight_taken c.args.taker.now) c.args.text.now
+              lines-more c.args.layout.now (line_parts (part_said c.args.layout.now.part) c.args.cut) (g.T.TakeItems.weight_taken c.args.taker.now) c.args.text.now
                   c.loop-from.from c.parts_from-end.result.1 xs c.loop-from.number line.after line.within line.end so_far w.if-from-end.true t.xs
-                  (rw (← total) (rw line.parts at t.given)),
+                  (rw (← total) (rw (rw line.parts at w.key_parts-parts.ensures) at t.given)),
             ),
           )
       | else-from-end w ↦
@@ -64,7 +66,7 @@ loop-from-preserved g c =
               total,
               weigh,
               made,
-              lines-blank c.args.layout.now c.args.separator (g.T.TakeItems.weight_taken c.args.taker.now) c.args.text.now
+              lines-blank c.args.layout.now (line_parts (part_said c.args.layout.now.part) c.args.cut) (g.T.TakeItems.weight_taken c.args.taker.now) c.args.text.now
                   c.loop-from.from c.parts_from-end.result.1 xs c.loop-from.number line.after line.within line.end so_far
                   (omega (arith, w.if-from-end.false)),
             ),
