@@ -1,5 +1,5 @@
 -- What the keys that can exceed a floor tell, once they were counted.
-use Rattle.std.proofs.Common.{◌≡◌, ℕ, suc, ◌+◌, ◌-◌, ◌*◌, ◌/◌, ◌<◌, ◌≤◌, ⊎_elim, ◌⊎◌, inl, inr, true, false, cond, List, [], ◌∷◌, length, refl, sym, ap, ◌∙◌, subst, mul-add, mul-le-mul_right, arith, filter, fold, nat_lt, take, zip, Less, Contains}
+use Rattle.std.proofs.Common.{◌≡◌, ℕ, suc, ◌+◌, ◌-◌, ◌*◌, ◌/◌, ◌<◌, ◌≤◌, ⊎_elim, ◌⊎◌, inl, inr, true, false, cond, List, [], ◌∷◌, length, refl, sym, ap, ◌∙◌, subst, mul-add, mul-le-mul_right, arith, filter, fold, get_or, nat_lt, take, zip, ◌++◌, Less, Contains}
 use Rattle.std.specs.List.{AllByRecursion, IsDistinct}
 use Rattle.std.specs.List.Sorted.{IsStrictlySortedBy}
 use Rattle.std.specs.Map.{keys_of}
@@ -7,7 +7,10 @@ use Rattle.std.specs.Ordering.{is_lt}
 use Rattle.std.proofs.lemmas.Bool.{cases_lt, cond_both, cond-false}
 use Rattle.std.proofs.lemmas.Bool.Decides.{nat_tests}
 use Rattle.std.proofs.lemmas.List.Sums.{length-filter}
-use Rattle.std.proofs.lemmas.List.Elements.{All-contains, All-contains_itself, All-map, All-weaker}
+use Rattle.std.proofs.lemmas.List.{get_or-map, take_more}
+use Rattle.std.proofs.lemmas.Map.Entries.{length-keys_of}
+use Rattle.std.proofs.lemmas.Slice.Zip.{get_or-zip, length-zip}
+use Rattle.std.proofs.lemmas.List.Elements.{All-contains, All-contains_itself, All-map, All-weaker, filter-append}
 use Rattle.hh_stream.specs.Weights.{Bytes, Entry, key_cmp, same_key, total_of, weight_of}
 use Rattle.hh_summaries.specs.Counters.{Counters, add_at, exceeds, level, over, tally}
 use Rattle.hh_summaries.specs.Report.{by_rank, rank_cmp, ranked_in, weights_at}
@@ -15,9 +18,8 @@ use Rattle.hh_summaries.proofs.Level.{is_level, over-cons}
 use Rattle.hh_summaries.proofs.Summaries.{total_of-cut}
 use Rattle.hh_summaries.proofs.Weights.{Distinct, by_add_at, in_from_number, number_from_in, rising-tally, same_self, same_sym, weight_of-tally}
 use Rattle.hh_summaries.proofs.Reports.{candidates, candidates_in, filter_in, keys_of-candidates, rising-filter, same_ranked, zip-weights_at}
-use Rattle.hh_counters.specs.Counting.{Count, count_of}
-use Rattle.hh_tally.specs.Tallies.{AreBounds, IsLoss, TallyView}
-use Rattle.hh_top.specs.Top.{IsUncertain, ShortlistView, chosen_of, floor_of, most_uncounted, nth_counter, rows_over, stand_out, top}
+use Rattle.hh_tally.specs.Tallies.{AreBounds, IsLoss, TallyView, unsure_of}
+use Rattle.hh_top.specs.Top.{IsUncertain, ShortlistView, chosen_of, counted_of, floor_of, most_uncounted, nth_counter, rows_over, stand_out, top}
 use Rattle.hh_top.proofs.Ranking.{first_rows, over_is_exact}
 
 -- ---- how many rows there are
@@ -229,18 +231,29 @@ floor_is_little list xs bounds share loss few =
     rw at (omega (arith, uncounted_is_little k t share loss, bounds.counted)))
     (cases_lt (most_uncounted k t) (nth_counter n t))
 
--- ---- what is chosen of a count
-module _ (list : ShortlistView) (f : ℕ) (is : f ≡ floor_of list) (counts : Count)
-    (keys : counts.keys ≡ keys_of (chosen_of list)) (rows : List Entry)
-    (chosen : rows ≡ rows_over f (zip counts.keys counts.weights)) (xs : List Entry)
-    (bounds : AreBounds list.tally xs) (counted : counts ≡ count_of counts.keys xs) where
+-- ---- what is chosen, where all weights are known
+-- the weights of chosen entries ds are those that a tally t tells by what was counted
+pub all_weighed : (list : ShortlistView) (t : TallyView) → t ≡ list.tally → (es ds : List Entry) → es ≡ chosen_of list
+    → ds ≡ es → (counted weights : List ℕ)
+    → ((xs : List Entry) → AreBounds t xs → counted ≡ weights_at (keys_of (unsure_of t ds)) xs
+    → weights ≡ weights_at (keys_of ds) xs)
+    → (xs : List Entry) → AreBounds list.tally xs → counted ≡ weights_at (keys_of (counted_of list)) xs
+    → weights ≡ weights_at (keys_of es) xs
+all_weighed list t same es ds are is counted weights tells xs bounds weighed =
+    tells xs (subst (λ (u : TallyView). AreBounds u xs) (sym same) bounds)
+    (weighed ∙ (λ i. weights_at (keys_of (unsure_of (sym same i) (sym (is ∙ are) i))) xs))
+    ∙ ap (λ (fs : List Entry). weights_at (keys_of fs) xs) is
+
+module _ (list : ShortlistView) (f : ℕ) (is : f ≡ floor_of list) (es : List Entry) (are : es ≡ chosen_of list)
+    (weights : List ℕ) (rows : List Entry) (chosen : rows ≡ rows_over f (zip (keys_of es) weights)) (xs : List Entry)
+    (bounds : AreBounds list.tally xs) (weighed : weights ≡ weights_at (keys_of es) xs) where
   rows_are_over : rows ≡ rows_over f (tally xs)
   rows_are_over =
       let t = list.tally in
-      let weights : counts.weights ≡ weights_at counts.keys xs = ap (λ (c : Count). c.weights) counted in
       let some = keys_of (filter (exceeds (f - t.lost)) (tally t.counters)) in
-      let same : counts.keys ≡ some = keys ∙ ap (λ f. keys_of (filter (exceeds (f - t.lost)) (tally t.counters))) (sym is) in
-      chosen ∙ ap (λ ns. rows_over f (zip counts.keys ns)) weights
+      let same : keys_of es ≡ some =
+      ap (λ (ds : List Entry). keys_of ds) are ∙ ap (λ f. keys_of (filter (exceeds (f - t.lost)) (tally t.counters))) (sym is) in
+      chosen ∙ ap (λ ns. rows_over f (zip (keys_of es) ns)) weighed
       ∙ ap (λ ks. rows_over f (zip ks (weights_at ks xs))) same ∙ rows_counted t xs bounds f (omega (arith, is))
 
   -- the first n of the rows, where they are as many or nothing weighs less, are the n greatest keys
@@ -307,23 +320,23 @@ rising_zip [] ns h = tt
 rising_zip (k ∷ ks) [] h = tt
 rising_zip (k ∷ ks) (n ∷ ns) h = (all_zip (λ y. key_cmp k y ≡ Less) ks ns h.0, rising_zip ks ns h.1)
 
-over_of_some : (t : ℕ) (es : List Entry) → filter (exceeds t) (filter (exceeds 0) es) ≡ filter (exceeds t) es
-over_of_some t [] = refl
-over_of_some t (e ∷ es) =
-    let rest = over_of_some t es in
-    cond_both (exceeds 0 e) (e ∷ filter (exceeds 0) es) (filter (exceeds 0) es)
-    (λ (ds : List Entry). filter (exceeds t) ds ≡ filter (exceeds t) (e ∷ es))
-    (λ _. ap (λ (ds : List Entry). cond (exceeds t e) (e ∷ ds) ds) rest)
-    (λ none. rest ∙ sym (cond-false (exceeds t e) _ _ (grind (arith, nat_tests, none))))
+-- a row more, or none, of entries with these keys and numbers
+pub row_more : (t : ℕ) (es : List Entry) (ns : List ℕ) (i : ℕ) → length ns ≡ length es → i < length es
+    → filter (exceeds t) (take (i + 1) (zip (keys_of es) ns)) ≡ filter (exceeds t) (take i (zip (keys_of es) ns))
+    ++ cond (nat_lt t (get_or ns i 0)) (((get_or es i ([], 0)).0, get_or ns i 0) ∷ []) []
+row_more t es ns i same l =
+    let ks = keys_of es in
+    let zs : List Entry = zip ks ns in
+    let n = get_or ns i 0 in
+    let keys : i < length ks = omega (arith, l, length-keys_of es) in
+    let numbers : i < length ns = omega (arith, l, same) in
+    let entry : get_or zs i ([], 0) ≡ ((get_or es i ([], 0)).0, n) =
+    get_or-zip ks ns i ([], 0) keys numbers ∙ ap (λ k. (k, n)) (get_or-map (λ (d : Entry). d.0) es i ([], 0) [] l) in
+    ap (filter (exceeds t)) (take_more zs i ([], 0) (omega (arith, length-zip ks ns, keys, numbers))
+    ∙ ap (λ (d : Entry). take i zs ++ d ∷ []) entry)
+    ∙ filter-append (exceeds t) (take i zs) (((get_or es i ([], 0)).0, n) ∷ [])
 
--- rows that were filtered are those over a number
-pub rows_kept : (t : ℕ) (ks : List Bytes) (ns : List ℕ) (came kept : List Entry) → came ≡ filter (exceeds 0) (zip ks ns)
-    → kept ≡ filter (exceeds t) came → kept ≡ filter (exceeds t) (zip ks ns)
-rows_kept t ks ns came kept is left = left ∙ ap (filter (exceeds t)) is ∙ over_of_some t (zip ks ns)
-
--- and their keys rise
-pub rising_over : (t : ℕ) (ks : List Bytes) (ns : List ℕ) (came kept : List Entry) → IsStrictlySortedBy key_cmp ks
-    → came ≡ filter (exceeds 0) (zip ks ns) → kept ≡ filter (exceeds t) came → IsStrictlySortedBy key_cmp (keys_of kept)
-rising_over t ks ns came kept rising is left =
-    subst (λ (c : List Entry). IsStrictlySortedBy key_cmp (keys_of c)) (sym (rows_kept t ks ns came kept is left))
-    (rising-filter (exceeds t) (zip ks ns) (rising_zip ks ns rising))
+-- keys with numbers rise as the keys do
+pub rising_rows : (t : ℕ) (es : List Entry) (ns : List ℕ) → IsStrictlySortedBy key_cmp (keys_of es)
+    → IsStrictlySortedBy key_cmp (keys_of (filter (exceeds t) (zip (keys_of es) ns)))
+rising_rows t es ns rises = rising-filter (exceeds t) (zip (keys_of es) ns) (rising_zip (keys_of es) ns rises)

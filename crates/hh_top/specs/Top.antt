@@ -5,7 +5,7 @@ use Rattle.std.specs.Ordering.{is_lt}
 use Rattle.hh_stream.specs.Weights.{Bytes, Entry, total_of, weight_of}
 use Rattle.hh_summaries.specs.Counters.{Counters, exceeds, level, tally}
 use Rattle.hh_summaries.specs.Report.{by_rank, rank_cmp}
-use Rattle.hh_tally.specs.Tallies.{TallyView}
+use Rattle.hh_tally.specs.Tallies.{TallyView, unsure_of}
 use Rattle.hh_faults.specs.declared.error.ToolError.{ToolError}
 use Rattle.hh_faults.specs.declared.error.ToolError.TheVariants as tool
 
@@ -57,6 +57,10 @@ floor_of list = max (most_uncounted list.k list.tally) (nth_counter list.n list.
 -- the counters of the keys that can weigh more than that, at most k of them, by rising key
 abbrev pub chosen_of : ShortlistView → Counters
 chosen_of list = filter (exceeds (floor_of list - list.tally.lost)) (tally list.tally.counters)
+
+-- those of them that have to be counted, since the tally isn't sure of their keys
+abbrev pub counted_of : ShortlistView → Counters
+counted_of list = unsure_of list.tally (chosen_of list)
 
 -- of the n greatest keys only the first are certain, fewer than n: just these weigh more than `most`, which is more than 0
 -- and at most what k counters leave open

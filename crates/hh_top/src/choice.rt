@@ -1,18 +1,17 @@
 //! The greatest keys, of those that a tally has counters for.
 
-ghost use Rattle.std.specs.Prelude.{◌≡◌, ◌+◌, ◌*◌, ◌≤◌, List, IfErr, IfOk, length, nat_lt, take, true, zip};
+ghost use Rattle.std.specs.Prelude.{◌≡◌, ◌+◌, ◌*◌, ◌≤◌, ◌++◌, ◌∷◌, [], List, IfErr, IfOk, OnOk, length, take, true, zip};
 ghost use Rattle.std.specs.Map.{keys_of};
 ghost use Rattle.std.specs.List.Sorted.{IsStrictlySortedBy};
 ghost use Rattle.hh_stream.specs.Weights.{Entry, key_cmp};
 ghost use Rattle.hh_summaries.specs.Counters.{max_k};
-ghost use Rattle.hh_summaries.specs.Report.{by_rank};
-ghost use Rattle.hh_counters.specs.Counting.{count_of};
+ghost use Rattle.hh_summaries.specs.Report.{by_rank, weights_at};
 ghost use Rattle.hh_tally.specs.Tallies.{AreBounds};
-ghost use Rattle.hh_top.specs.Top.{GreatestRefused, IsTopFault, chosen_of, floor_of};
+ghost use Rattle.hh_top.specs.Top.{GreatestRefused, IsTopFault, chosen_of, counted_of, floor_of};
 ghost use Rattle.hh_top.specs.Top.{rows_over, stand_out, top};
 ghost use Rattle.hh_faults.specs.declared.error.ToolError.TheVariants.{Memory};
 
-use hh_counters::{Candidates, Counts, Heavy};
+use hh_counters::{Candidates, Heavy};
 use hh_faults::ToolError;
 use hh_stream::{Key, KeyHash, TakeItems};
 use hh_tally::Tally;
@@ -94,42 +93,59 @@ impl Shortlist {
         self.most.max(self.counter.saturating_sub(1))
     }
 
-    /// The keys to count for the `n` greatest, hashed by `hash`: those of the tally that can weigh
+    /// The counters of the keys that can be among the `n` greatest: those of the tally that can weigh
     /// more than what a key without a counter can, and no less than the n-th greatest counter.
-    pub fn choice(&self, alloc: Global, hash: KeyHash) -> Result<Candidates, AllocError>
-        ensures keys { IfOk result (λ choice. choice ≡ keys_of (chosen_of self.now)) }
-        ensures few { IfOk result (λ choice. length choice ≤ self.now.k) }
+    fn chosen(&self, alloc: Global) -> Result<Vec<(Key, u64)>, AllocError>
+        ensures entries { IfOk result (λ entries. entries.items ≡ chosen_of self.now) }
+        ensures few { IfOk result (λ entries. length entries.items ≤ self.now.k) }
+        ensures rising { IfOk result (λ entries.
+            IsStrictlySortedBy key_cmp (keys_of entries.items)) }
         ensures most { self.now.k ≤ max_k }
     {
         let floor = self.floor();
         let entries = self
             .tally
             .above(alloc, floor.saturating_sub(self.tally.lost()))?;
-        Candidates::of_entries(alloc, &entries, hash)
+        Ok(entries)
+    }
+
+    /// The keys to count for the `n` greatest, hashed by `hash`: those that can be among them, but
+    /// that the tally isn't sure of.
+    pub fn choice(&self, alloc: Global, hash: KeyHash) -> Result<Candidates, AllocError>
+        ensures keys { IfOk result (λ choice. choice ≡ keys_of (counted_of self.now)) }
+        ensures few { IfOk result (λ choice. length choice ≤ self.now.k) }
+        ensures most { self.now.k ≤ max_k }
+    {
+        let entries = self.chosen(alloc)?;
+        let unsure = self.tally.unsure(alloc, &entries)?;
+        Candidates::of_entries(alloc, &unsure, hash)
     }
 
     /// The `n` greatest keys of the items that the tally is of, where the keys of
-    /// [`choice`](Shortlist::choice) were counted in the same items.
+    /// [`choice`](Shortlist::choice) were `counted` in the same items.
     ///
-    /// They are certain where `n` keys weigh more than what a key can that wasn't counted, or where
-    /// no such key weighs anything. Else the refusal has how many keys weigh more than that, and
-    /// that weight. Where the list [`stands_out`](Shortlist::stands_out) they are never refused.
-    pub fn greatest(&self, alloc: Global, counts: &Counts) -> Result<Vec<Heavy>, ToolError>
-        requires keys { counts.now.keys ≡ keys_of (chosen_of self.now) }
+    /// They are certain where `n` keys weigh more than what a key can that isn't among the chosen,
+    /// or where no such key weighs anything. Else the refusal has how many keys weigh more than that,
+    /// and that weight. Where the list [`stands_out`](Shortlist::stands_out) they are never refused.
+    pub fn greatest(&self, alloc: Global, counted: &[u64]) -> Result<Vec<Heavy>, ToolError>
+        requires counted { length counted.now ≡ length (counted_of self.now) }
         ensures rows { IfOk result (λ rows. (xs : List Entry) → AreBounds self.now.tally xs
-            → counts.now ≡ count_of counts.now.keys xs → rows.items ≡ top self.now.n xs) }
+            → counted.now ≡ weights_at (keys_of (counted_of self.now)) xs
+            → rows.items ≡ top self.now.n xs) }
         ensures refused { IfErr result (λ fault. (xs : List Entry) → AreBounds self.now.tally xs
-            → counts.now ≡ count_of counts.now.keys xs
+            → counted.now ≡ weights_at (keys_of (counted_of self.now)) xs
             → GreatestRefused xs self.now.n self.now.k fault) }
         ensures sure { stand_out self.now ≡ true
             → IfErr result (λ fault. (xs : List Entry) → AreBounds self.now.tally xs
-            → counts.now ≡ count_of counts.now.keys xs → fault ≡ Memory) }
+            → counted.now ≡ weights_at (keys_of (counted_of self.now)) xs → fault ≡ Memory) }
         ensures kind { IfErr result IsTopFault }
     {
         let floor = self.floor();
         // It bounds what was lost.
         let _lost = self.tally.lost();
-        let rows = rows_over(alloc, counts, floor)?;
+        let entries = self.chosen(alloc)?;
+        let weights = self.tally.weights(alloc, &entries, counted)?;
+        let rows = rows_over(alloc, &entries, &weights, floor)?;
         if floor > 0 && (rows.len() as u64) < self.n {
             return Err(ToolError::TopUncertain {
                 certain: rows.len() as u64,
@@ -160,21 +176,36 @@ fn rank(rows: &mut Vec<Heavy>)
     rows.sort_unstable_by(|a, b| b.weight.cmp(&a.weight).then(a.key.cmp(&b.key)));
 }
 
-/// The keys that weigh more than `floor` in what was counted, by falling weight and then by rising
-/// key.
-fn rows_over(alloc: Global, counts: &Counts, floor: u64) -> Result<Vec<Heavy>, AllocError>
-    requires { IsStrictlySortedBy key_cmp counts.now.keys }
+/// The keys of `entries` that weigh more than `floor`, where these are their `weights`, by falling
+/// weight and then by rising key.
+fn rows_over(
+    alloc: Global,
+    entries: &[(Key, u64)],
+    weights: &[u64],
+    floor: u64,
+) -> Result<Vec<Heavy>, AllocError>
+    requires rising { IsStrictlySortedBy key_cmp (keys_of entries.now) }
+    requires count { length weights.now ≡ length entries.now }
     ensures { IfOk result (λ rows.
-        rows.items ≡ rows_over floor (zip counts.now.keys counts.now.weights)) }
+        rows.items ≡ rows_over floor (zip (keys_of entries.now) weights.now)) }
 {
-    let mut rows = counts.rows(alloc)?;
-    rows.retain(
-        |row: &Heavy| -> bool
-            ensures { result ≡ nat_lt floor row.now.1 }
-        { row.weight > floor },
-    );
+    let mut rows = Vec::new(alloc);
+    for i in 0..entries.len() {
+        if weights[i] > floor {
+            push_row(&mut rows, &entries[i].0, weights[i])?;
+        }
+    }
     rank(&mut rows);
     Ok(rows)
+}
+
+/// Puts a row with a copy of `key` last.
+fn push_row(rows: &mut Vec<Heavy>, key: &Key, weight: u64) -> Result<(), AllocError>
+    ensures { OnOk result (rows.new.items ≡ rows.old.items ++ (key.now, weight) ∷ []) }
+{
+    let key = key.copy()?;
+    rows.push(Heavy { key, weight })?;
+    Ok(())
 }
 
 /// The first `n` rows, or all where they are fewer.
@@ -193,10 +224,7 @@ fn rows_of(alloc: Global, entries: &[(Key, u64)]) -> Result<Vec<Heavy>, AllocErr
 {
     let mut rows = Vec::new(alloc);
     for (key, weight) in entries {
-        rows.push(Heavy {
-            key: key.copy()?,
-            weight: *weight,
-        })?;
+        push_row(&mut rows, key, *weight)?;
     }
     Ok(rows)
 }
