@@ -1,10 +1,12 @@
 -- The greatest keys of files that are read twice.
-use Rattle.std.proofs.Common.{◌≡◌, ◌∙◌, ℕ, ◌/◌, ◌≤◌, ⊎_elim, inl, inr, Bool, List, [], ◌∷◌, Option, Some, None, Result, Ok, Err, refl, sym, ap, subst, arith, fold, map}
+use Rattle.std.proofs.Common.{◌≡◌, ◌∙◌, ℕ, ◌/◌, ◌≤◌, ⊎_elim, inl, inr, Bool, List, [], ◌∷◌, Option, Some, None, Result, Ok, Err, length, refl, sym, ap, subst, arith, fold, map}
+use Rattle.std.proofs.lemmas.List.{length-map}
 use Rattle.std.specs.Prelude.{IfErr, IfSome, IsSome, option_map, true}
 use Rattle.hh_stream.specs.Cuttings.{whole_of}
 use Rattle.hh_stream.specs.Ranges.{in_range}
-use Rattle.hh_stream.specs.Weights.{Bytes, Entry, max_total, total_of}
-use Rattle.hh_counters.specs.Counting.{Count, count_of}
+use Rattle.hh_stream.specs.Weights.{Bytes, Entry, max_total, total_of, weight_of}
+use Rattle.hh_summaries.specs.Report.{weights_at}
+use Rattle.hh_counters.specs.Counting.{Count}
 use Rattle.hh_tally.specs.Laws.{BoundsFollow}
 use Rattle.hh_tally.specs.Tallies.{AreBounds, TallyView, empty_tally, tally_with}
 use Rattle.hh_tally.specs.declared.room.Room.{Room}
@@ -21,7 +23,7 @@ use Rattle.hh_rows.specs.Printed.{printed_rows}
 use Rattle.hh_rows.specs.declared.printed.RowOptions.{RowOptions}
 use Rattle.hh_commands.specs.Records.{CountsRecords}
 use Rattle.hh_files.specs.ReportFiles.{items_or_too_many, lists_of}
-use Rattle.hh_files.specs.TopFiles.{FindsTop, IsSharedRoom, ListRefused, PrintsTop, TalliesRecords, TellsTop, TopFilesRefused, TopRefused, counted_in, shared_room, whole_room}
+use Rattle.hh_files.specs.TopFiles.{FindsTop, IsSharedRoom, ListRefused, PrintsTop, TalliesRecords, TellsTop, TopFilesRefused, TopRefused, WeighsRecords, counted_in, shared_room, whole_room}
 use Rattle.hh_files.specs.declared.topping.TopOptions.{TopOptions}
 use Rattle.hh_files.proofs.FilePieceFacts.{each_is_read}
 use Rattle.hh_faults.specs.declared.error.ToolError.{ToolError}
@@ -46,9 +48,25 @@ shared_refused options list known e same shared h =
     (λ (own : TellsTop list × (list.tally.room ≡ shared_room (options.memory / options.workers))). inl own.0)
     (λ (all : (list.k ≡ k) × (list.tally.room ≡ whole_room options.memory)). inr (sym all.0)) shared))
 
--- a count is one of its own keys
-pub keys_counted : (known : Known) (ks : List Bytes) (counts : Count) → CountsRecords known ks counts → counts.keys ≡ ks
-keys_counted known ks counts (ys, again, (weigh, counted)) = ap (λ (c : Count). c.keys) counted
+-- a count of records has a number for each key, which is the key's weight in them
+pub count_of_each : (known : Known) (ks : List Bytes) (counts : Count) → CountsRecords known ks counts
+    → length counts.weights ≡ length ks
+count_of_each known ks counts (ys, again, (weigh, counted)) =
+    ap (λ (c : Count). length c.weights) counted ∙ length-map ks (λ x. weight_of x ys)
+
+pub records_weighed : (names : Bool) (o : Option (Option Reading)) (ks : List Bytes) (counts : Count)
+    → CountsRecords (record { names_columns = names; reading = o }) ks counts
+    → WeighsRecords (record { names_columns = names; reading = o }) ks counts.weights
+records_weighed names None ks counts h = tt
+records_weighed names (Some r) ks counts (ys, again, (weigh, counted)) = λ xs read.
+    let same : ys ≡ xs = cc in
+    ap (λ (c : Count). c.weights) counted ∙ ap (weights_at ks) same
+
+-- and no keys have no weights
+pub none_weighed : (names : Bool) (o : Option (Option Reading)) (ks : List Bytes) (ws : List ℕ) → ks ≡ [] → ws ≡ []
+    → WeighsRecords (record { names_columns = names; reading = o }) ks ws
+none_weighed names None ks ws none is = tt
+none_weighed names (Some r) ks ws none is = λ xs read. is ∙ ap (λ ks. weights_at ks xs) (sym none)
 
 module _ (names : Bool) (n : ℕ) (room : Room) (t : TallyView) where
   -- what is found of a tally that lost nothing is of the records
@@ -59,59 +77,51 @@ module _ (names : Bool) (n : ℕ) (room : Room) (t : TallyView) where
   exact_found None keys made found = tt
   exact_found (Some r) keys (xs, read, of, bounds) found = (xs, read, bounds.counted, found xs bounds)
 
-module _ (names : Bool) (n : ℕ) (room : Room) (t : TallyView) (ks : List Bytes) (counts : Count) where
+module _ (names : Bool) (list : ShortlistView) (room : Room) (ks : List Bytes) (counted : List ℕ) where
   -- what was found of the records is theirs where both readings are one
   pub top_found : (o : Option (Option Reading)) (keys : List Entry)
-      → TalliesRecords room (record { names_columns = names; reading = o }) t
-      → CountsRecords (record { names_columns = names; reading = o }) ks counts
-      → ((xs : List Entry) → AreBounds t xs → counts ≡ count_of counts.keys xs → keys ≡ top n xs)
-      → FindsTop n (record { names_columns = names; reading = o }) t.total keys
-  top_found None keys made counted found = tt
-  top_found (Some r) keys (xs, read, of, bounds) (ys, again, (weigh, counted)) found =
-      let same : ys ≡ xs = cc in
-      let own : counts ≡ count_of counts.keys xs = counted ∙ ap (count_of ks) same
-      ∙ ap (λ ks. count_of ks xs) (sym (ap (λ (c : Count). c.keys) counted)) in
-      (xs, read, bounds.counted, found xs bounds own)
+      → TalliesRecords room (record { names_columns = names; reading = o }) list.tally
+      → WeighsRecords (record { names_columns = names; reading = o }) ks counted
+      → ((xs : List Entry) → AreBounds list.tally xs → counted ≡ weights_at ks xs → keys ≡ top list.n xs)
+      → FindsTop list.n (record { names_columns = names; reading = o }) list.tally.total keys
+  top_found None keys made weighs found = tt
+  top_found (Some r) keys (xs, read, of, bounds) weighs found =
+      (xs, read, bounds.counted, found xs bounds (weighs xs read))
 
-module _ (names : Bool) (list : ShortlistView) (room : Room) (ks : List Bytes) (counts : Count) where
   -- and so is what a refusal tells: none of them, where the list tells the greatest keys
   pub top_refused : (o : Option (Option Reading)) (e : ToolError)
       → TalliesRecords room (record { names_columns = names; reading = o }) list.tally
-      → CountsRecords (record { names_columns = names; reading = o }) ks counts
+      → WeighsRecords (record { names_columns = names; reading = o }) ks counted
       → IsTopFault e → (list.tally.lost ≡ 0 → ⊥)
-      → ((xs : List Entry) → AreBounds list.tally xs → counts ≡ count_of counts.keys xs
-      → GreatestRefused xs list.n list.k e)
-      → (stand_out list ≡ true → (xs : List Entry) → AreBounds list.tally xs → counts ≡ count_of counts.keys xs
-      → e ≡ tool.Memory)
+      → ((xs : List Entry) → AreBounds list.tally xs → counted ≡ weights_at ks xs → GreatestRefused xs list.n list.k e)
+      → (stand_out list ≡ true → (xs : List Entry) → AreBounds list.tally xs → counted ≡ weights_at ks xs → e ≡ tool.Memory)
       → ListRefused list (record { names_columns = names; reading = o }) e
-  top_refused None (tool.TopUncertain certain most) made counted kind lossy h sure = λ _ _. tt
-  top_refused (Some r) (tool.TopUncertain certain most) (xs, read, of, bounds) (ys, again, (weigh, counted)) kind lossy h sure =
-      let same : ys ≡ xs = cc in
-      let own : counts ≡ count_of counts.keys xs = counted ∙ ap (count_of ks) same
-      ∙ ap (λ ks. count_of ks xs) (sym (ap (λ (c : Count). c.keys) counted)) in
+  top_refused None (tool.TopUncertain certain most) made weighs kind lossy h sure = λ _ _. tt
+  top_refused (Some r) (tool.TopUncertain certain most) (xs, read, of, bounds) weighs kind lossy h sure =
       λ k how. ⊎_elim
       (λ (tells : TellsTop list). absurd (⊎_elim lossy
-      (λ (out : stand_out list ≡ true). not_memory (sure out xs bounds own)) tells))
-      (λ (is : k ≡ list.k). (xs, read, subst (λ j. IsUncertain xs list.n j certain most) (sym is) (h xs bounds own)))
+      (λ (out : stand_out list ≡ true). not_memory (sure out xs bounds (weighs xs read))) tells))
+      (λ (is : k ≡ list.k).
+      (xs, read, subst (λ j. IsUncertain xs list.n j certain most) (sym is) (h xs bounds (weighs xs read))))
       how
     where
       not_memory : tool.TopUncertain certain most ≡ tool.Memory → ⊥
       not_memory clash = absurd (cc (clash))
-  top_refused o tool.Memory made counted kind lossy h sure = λ _ _. tt
-  top_refused o e made counted kind lossy h sure = absurd kind
+  top_refused o tool.Memory made weighs kind lossy h sure = λ _ _. tt
+  top_refused o e made weighs kind lossy h sure = absurd kind
 
   -- whatever the call gives
   pub greatest_refused : {A : Type 0} (r : Result A ToolError) (o : Option (Option Reading))
       → TalliesRecords room (record { names_columns = names; reading = o }) list.tally
-      → CountsRecords (record { names_columns = names; reading = o }) ks counts
+      → WeighsRecords (record { names_columns = names; reading = o }) ks counted
       → IfErr r IsTopFault → (list.tally.lost ≡ 0 → ⊥)
-      → IfErr r (λ e. (xs : List Entry) → AreBounds list.tally xs → counts ≡ count_of counts.keys xs
+      → IfErr r (λ e. (xs : List Entry) → AreBounds list.tally xs → counted ≡ weights_at ks xs
       → GreatestRefused xs list.n list.k e)
       → (stand_out list ≡ true → IfErr r (λ e. (xs : List Entry) → AreBounds list.tally xs
-      → counts ≡ count_of counts.keys xs → e ≡ tool.Memory))
+      → counted ≡ weights_at ks xs → e ≡ tool.Memory))
       → IfErr r (ListRefused list (record { names_columns = names; reading = o }))
-  greatest_refused (Ok a) o made counted kind lossy h sure = tt
-  greatest_refused (Err e) o made counted kind lossy h sure = top_refused o e made counted kind lossy h sure
+  greatest_refused (Ok a) o made weighs kind lossy h sure = tt
+  greatest_refused (Err e) o made weighs kind lossy h sure = top_refused o e made weighs kind lossy h sure
 
 -- ---- tallies of records
 module _ (room : Room) (t : TallyView) where

@@ -2,8 +2,9 @@
 -- of the keys.
 use Rattle.std.specs.Prelude.{◌≡◌, ℕ, ◌+◌, ◌-◌, ◌*◌, ◌/◌, ◌⊎◌, true, max, min, List, Ok}
 use Rattle.hh_stream.specs.Ranges.{in_range}
-use Rattle.hh_stream.specs.Weights.{Entry, total_of}
+use Rattle.hh_stream.specs.Weights.{Bytes, Entry, total_of}
 use Rattle.hh_summaries.specs.Counters.{max_k}
+use Rattle.hh_summaries.specs.Report.{weights_at}
 use Rattle.hh_tally.specs.Tallies.{AreBounds, TallyView, max_keys}
 use Rattle.hh_tally.specs.declared.room.Room.{Room}
 use Rattle.hh_top.specs.Top.{IsUncertain, ShortlistView, stand_out, top}
@@ -54,6 +55,10 @@ abbrev pub IsSharedRoom : TopOptions → ShortlistView → Type 0
 IsSharedRoom options list =
     (TellsTop list × (list.tally.room ≡ shared_room (options.memory / options.workers)))
     ⊎ ((list.k ≡ counted_in options.memory) × (list.tally.room ≡ whole_room options.memory))
+
+-- where the records' bytes are known, these are the weights of the keys ks in them
+abbrev pub WeighsRecords : Known → List Bytes → List ℕ → Type 0
+WeighsRecords known ks ws = IfKnown known ((xs : List Entry) → ReadsAs known (Ok xs) → ws ≡ weights_at ks xs)
 
 -- where the records' bytes are known, these are their total and their n greatest keys
 abbrev pub FindsTop : ℕ → Known → ℕ → List Entry → Type 0

@@ -7,14 +7,14 @@ ghost use Rattle.hh_tally.specs.Tallies.{IsRoom};
 ghost use Rattle.hh_workers.specs.Workers.{max_workers};
 ghost use Rattle.hh_pieces.specs.Sources.{sources_known};
 ghost use Rattle.hh_records.specs.Refusals.{RecordsRefused};
-ghost use Rattle.hh_commands.specs.Records.{CountsRecords};
 ghost use Rattle.hh_files.specs.TopFiles.{FindsTop, IsSharedRoom, ListRefused, PrintsTop};
-ghost use Rattle.hh_files.specs.TopFiles.{TalliesRecords, TopFilesRefused, TopRefused, counted_in};
+ghost use Rattle.hh_files.specs.TopFiles.{TalliesRecords, TopFilesRefused, TopRefused};
+ghost use Rattle.hh_files.specs.TopFiles.{WeighsRecords, counted_in};
 
 use crate::file_passes::count_sources;
 use crate::rooms::{counted_in, shared_room, whole_room};
 use crate::tallying::tally_of_sources;
-use hh_counters::{Candidates, Counts, Heavy};
+use hh_counters::{Candidates, Heavy};
 use hh_faults::ToolError;
 use hh_pieces::{ReadAt, SourceRecords};
 use hh_pool::MAX_WORKERS;
@@ -100,32 +100,38 @@ fn shortlist_of<T: Threads + Wait + Sync, S: ReadAt + Sync>(
     Ok(grown)
 }
 
-/// Counts `candidates` in `records`, whose tally has this `total`. If the count has another, the
-/// error is [`ToolError::ReadFault`].
-fn chosen_counts<'c, T: Threads + Wait + Sync, S: ReadAt + Sync>(
+/// The weights of `candidates` in `records`, whose tally has this `total`. The records are read only
+/// if there are candidates. If the count has another total, the error is [`ToolError::ReadFault`].
+fn weights_in<T: Threads + Wait + Sync, S: ReadAt + Sync>(
     rt: &T,
     alloc: Global,
     total: u64,
-    candidates: &'c Candidates,
+    candidates: &Candidates,
     workers: u64,
     records: SourceRecords<'_, S>,
-) -> Result<Counts<'c>, ToolError>
+) -> Result<Vec<u64>, ToolError>
     requires few { length candidates.now ≤ max_k }
     requires workers { in_range workers max_workers ≡ true }
-    ensures counts { IfOk result
-        (CountsRecords (sources_known S.bytes records.entry) candidates.now) }
+    requires still { All S.still records.sources.now }
+    ensures count { IfOk result (λ weights. length weights.items ≡ length candidates.now) }
+    ensures weights { IfOk result (λ weights. WeighsRecords
+        (sources_known S.bytes records.entry) candidates.now weights.items) }
     ensures still { OnOk result (All S.still records.entry.sources.now) }
     ensures refused { IfErr result (RecordsRefused (sources_known S.bytes records.entry)) }
 {
+    if candidates.is_empty() {
+        return Ok(Vec::new(alloc));
+    }
     let counts = count_sources(rt, alloc, candidates, workers, records)?;
     if counts.total() != total {
         return Err(ToolError::ReadFault);
     }
-    Ok(counts)
+    Ok(counts.into_weights())
 }
 
 /// Finds the greatest keys of `records`, of whose tally this is the shortlist: by its counters
-/// where it lost nothing, and else by counting those that can be among them.
+/// where it lost nothing, and else by counting those that can be among them, but of which the tally
+/// isn't sure.
 fn top_of_list<T: Threads + Wait + Sync, S: ReadAt + Sync>(
     rt: &T,
     alloc: Global,
@@ -148,11 +154,11 @@ fn top_of_list<T: Threads + Wait + Sync, S: ReadAt + Sync>(
     }
     let choice = list.choice(alloc, records.layout.hash)?;
     let total = list.tally().total();
-    let counts = match chosen_counts(rt, alloc, total, &choice, workers, records) {
-        Ok(counts) => counts,
+    let counted = match weights_in(rt, alloc, total, &choice, workers, records) {
+        Ok(counted) => counted,
         Err(fault) => return Err(fault),
     };
-    list.greatest(alloc, &counts)
+    list.greatest(alloc, &counted)
 }
 
 /// Finds the total of `records` and their greatest keys.
@@ -181,9 +187,9 @@ fn top_of_sources<T: Threads + Wait + Sync, S: ReadAt + Sync>(
 
 /// The greatest keys of files of any size, as many as the options say, or of other bytes that are
 /// read at any place, with their weights, by falling weight and then by rising key; all keys where
-/// they are fewer. Workers read the files in pieces, through a buffer each: once where there are
-/// counters for all keys, which then are the weights, and else once more, to count the keys that
-/// can be among the greatest, as far as the counters tell. The workers share the options' memory
+/// they are fewer. Workers read the files in pieces, through a buffer each: once where the counters
+/// tell the weight of each key that can be among the greatest, and else once more, to count the
+/// others that can. The workers share the options' memory
 /// evenly for that, and a worker has at most 131,072 counters. Where these don't tell, one worker
 /// tallies the files anew before that, with all of the memory, and only what it leaves open is
 /// refused. Nothing of a file is kept. Where a piece can't be read by itself, one thread reads all
