@@ -8,6 +8,7 @@ import contextlib
 import copy
 import ctypes
 import doctest
+import functools
 import importlib.util
 import io
 import itertools
@@ -1039,17 +1040,338 @@ class Threads(unittest.TestCase):
         self.assertEqual(failed, [])
 
 
-    def test_one_value(self) -> None:
-        """Updates of one summary by four threads at once are made one after the other, each whole."""
-        summary = updated(heavy.Summary(k=9), ("0", 1))
-        threads = [
-            threading.Thread(target=lambda: updated(summary, *[(str(number), 1) for number in range(9)] * 500)) for _ in range(4)
-        ]
+def at_once(*works: object) -> list[BaseException]:
+    """What these raise, each of them run by a thread of its own, where Python changes threads as often as it can."""
+    raised: list[BaseException] = []
+    begun, interval = threading.Barrier(len(works)), sys.getswitchinterval()
+
+    def run(work: object) -> None:
+        begun.wait()
+        try:
+            work()
+        except BaseException as error:
+            raised.append(error)
+
+    threads = [threading.Thread(target=run, args=(work,)) for work in works]
+    sys.setswitchinterval(1e-6)
+    try:
         for thread in threads:
             thread.start()
         for thread in threads:
             thread.join()
-        self.assertEqual(sorted(summary.entries()), [(b"0", 2001), *[(b"%d" % number, 2000) for number in range(1, 9)]])
+    finally:
+        sys.setswitchinterval(interval)
+    return raised
+
+
+def times(many: int, call: object) -> object:
+    """What makes a call so often."""
+    return lambda: [call() for _ in range(many)]
+
+
+class OneObject(unittest.TestCase):
+    """One summary or table that eight threads use at once."""
+
+    # what adds 5 of a and 3 of b
+    CHANGES = {
+        "update": lambda it, other: updated(it, ("a", 5), ("b", 3)),
+        "update_many": lambda it, other: it.update_many(["a", "b", "a"], [1, 3, 4]),
+        "update_many of a mapping": lambda it, other: it.update_many({"a": 5, "b": 3}),
+        "update_many of an iterator": lambda it, other: it.update_many(iter(["a", "b"]), iter([5, 3])),
+        "update_csv": lambda it, other: it.update_csv(b"a,5\nb,3\n"),
+        "update_csv of a file": lambda it, other: it.update_csv(io.BytesIO(b"a,5\nb,3\n")),
+        "+=": lambda it, other: it.__iadd__(other),
+        "|=": lambda it, other: it.__ior__(other),
+    }
+
+    def made(self) -> list[tuple[heavy.Summary | heavy.Table, heavy.Summary | heavy.Table]]:
+        """A summary and a table, each with another that has 5 of a and 3 of b."""
+        return [
+            (heavy.Summary(k=5), heavy.Summary.of_csv(b"a,5\nb,3\n", 5)),
+            (heavy.Table(width=64), heavy.Table.of_csv(b"a,5\nb,3\n", 64)),
+        ]
+
+    def test_changes(self) -> None:
+        """No change is lost, whatever call eight threads make."""
+        for name, change in self.CHANGES.items():
+            for file, other in self.made():
+                with self.subTest(name, file=file):
+                    works = [times(50, lambda: change(file, other))] * 8
+                    self.assertEqual(at_once(*works), [])
+                    self.assertEqual((file.total, file.ask("a")[1], file.ask("b")[1]), (3200, 2000, 1200))
+
+    def test_other_changes(self) -> None:
+        """No change is lost where eight threads make eight calls, and other threads read."""
+        for file, other in self.made():
+            works = [times(100, functools.partial(change, file, other)) for change in self.CHANGES.values()]
+            reads = [times(100, file.to_bytes), times(100, lambda: file.ask("a")), times(100, file.copy)]
+            self.assertEqual((len(works), at_once(*works, *reads)), (8, []))
+            self.assertEqual((file.total, file.ask("a")[1], file.ask("b")[1]), (6400, 4000, 2400))
+
+    def test_random_changes(self) -> None:
+        """Random changes by eight threads: the totals are exact, and each weight is within its bounds."""
+        for seed in range(20):
+            summary, table = heavy.Summary(k=10), heavy.Table(width=8, depth=2)
+            exact = [collections.Counter() for _ in range(8)]
+
+            def work(number: int) -> None:
+                draw = random.Random(f"{seed} {number}")
+                for _ in range(20):
+                    counted = collections.Counter(f"k{int(draw.expovariate(0.1))}" for _ in range(draw.randrange(1, 30)))
+                    exact[number].update(counted)
+                    self.random_change(draw, summary, table, counted)
+
+            with self.subTest(seed):
+                self.assertEqual(at_once(*(functools.partial(work, number) for number in range(8))), [])
+                whole = sum(exact, collections.Counter())
+                self.assertEqual((summary.total, table.total), (whole.total(), whole.total()))
+                for key, weight in whole.items():
+                    low, high = summary.ask(key)
+                    self.assertTrue(low <= weight <= high and table.estimate(key) >= weight, key)
+
+    def random_change(
+        self, draw: random.Random, summary: heavy.Summary, table: heavy.Table, counted: collections.Counter[str]
+    ) -> None:
+        """Adds what was counted to both, in one of the ways."""
+        way = draw.randrange(4)
+        for file, other in ((summary, heavy.Summary(k=10)), (table, heavy.Table(width=8, depth=2))):
+            if way == 0:
+                updated(file, *counted.items())
+            elif way == 1:
+                file.update_many(counted)
+            elif way == 2:
+                file.update_csv("".join(f"{key},{weight}\n" for key, weight in counted.items()).encode())
+            else:
+                other.update_many(counted)
+                file += other
+
+    def test_two_objects(self) -> None:
+        """`a += b` beside `b += a` gives what one after the other gives, in some order, and no two wait for each other."""
+        for make in (lambda: heavy.Summary.of_csv(b"a\n", 3), lambda: heavy.Table.of_csv(b"a\n", 8, 2)):
+            for _ in range(5):
+                first, second = make(), make()
+                works = [times(5, lambda: first.__iadd__(second))] * 4 + [times(5, lambda: second.__iadd__(first))] * 4
+                self.assertEqual(at_once(*works), [])
+                # the larger total is that of the last change: taken back step by step, both begin with 1
+                one, two, taken = first.total, second.total, [0, 0]
+                while one != two:
+                    taken[one < two] += 1
+                    one, two = (one - two, two) if one > two else (one, two - one)
+                self.assertEqual((one, two, taken), (1, 1, [20, 20]))
+
+    def test_itself(self) -> None:
+        """`a += a` doubles it, by one thread and by eight."""
+        for file in (heavy.Summary.of_csv(b"a,3\n", 3), heavy.Table.of_csv(b"a,3\n", 8, 2)):
+            file += file
+            self.assertEqual((file.total, heavy.merge(file, file).total, (file + file).total, file == file), (6, 12, 12, True))
+            self.assertEqual(at_once(*[times(4, lambda: file.__iadd__(file))] * 8), [])
+            self.assertEqual((file.total, file.ask("a")[1]), (6 * 2**32, 6 * 2**32))
+
+    def test_two_at_one_time(self) -> None:
+        """A merge has its files as they are at one time."""
+        first, second = heavy.Summary(k=3), heavy.Summary(k=3)
+        for file, key in ((first, "a"), (second, "b")):
+            file.update(key)
+
+        def add() -> None:
+            first.update("a")
+            second.update("b")
+
+        def ahead(file: heavy.Summary) -> int:
+            return file.ask("a")[0] - file.ask("b")[0]
+
+        found: set[int] = set()
+        reads = [lambda: found.add(ahead(heavy.merge(second, first))), lambda: found.add(ahead(second + first))]
+        self.assertEqual(at_once(times(2000, add), *(times(500, read) for read in reads)), [])
+        # a is added first, so that it is ahead by one or by none
+        self.assertTrue(found <= {0, 1}, found)
+        self.assertEqual(ahead(first + second), 0)
+
+    READS = {
+        "items": lambda it: {row.key: row.low for row in it.items()},
+        "entries": lambda it: dict(it.entries()),
+        "top": lambda it: {row.key: row.low for row in it.top(3)},
+        "list_csv": lambda it: {row.key: row.weight for row in heavy._records.rows_of(re.sub(b",[0-9]+\n", b"\n", it.list_csv()), True)},
+        "ask_many": lambda it: dict(zip("abc", (low for low, _ in it.ask_many([*"abc"])))),
+        "to_bytes": lambda it: dict(heavy.Summary(it.to_bytes(), text=True).entries()),
+        "copy": lambda it: dict(it.copy().entries()),
+        "deepcopy": lambda it: dict(copy.deepcopy(it).entries()),
+        "pickle": lambda it: dict(pickle.loads(pickle.dumps(it)).entries()),
+        "sum": lambda it: dict(sum([it]).entries()),
+        "merge": lambda it: dict(heavy.merge(it).entries()),
+    }
+
+    def test_reads(self) -> None:
+        """Each read finds what was there between two changes: as many of a as of b, which are added together."""
+        for name, read in self.READS.items():
+            summary = heavy.Summary(k=5, text=True)
+            summary.update_many({"a": 1, "b": 1, "c": 1})
+            wrong: list[object] = []
+
+            def look() -> None:
+                found = read(summary)
+                if found["a"] != found["b"] or not 1 <= found["c"] <= 301:
+                    wrong.append(found)
+
+            works = [times(50, lambda: summary.update_many({"a": 1, "b": 1}))] * 3 + [times(100, lambda: summary.update("c"))] * 3
+            with self.subTest(name):
+                self.assertEqual((at_once(*works, *[times(50, look)] * 2), wrong), ([], []))
+                self.assertEqual(read(summary), {"a": 151, "b": 151, "c": 301})
+
+    def test_numbers_that_belong_together(self) -> None:
+        """What a read says of a summary in several numbers is of one time."""
+        summary, table = heavy.Summary(k=5, text=True), heavy.Table(width=8)
+        for file in (summary, table):
+            file.update_many({"a": 1, "b": 1})
+        wrong: list[object] = []
+
+        def look() -> None:
+            told, cells = summary.describe(), repr(table)
+            if told.counters != told.total or told.total % 2 or told.keys != 2 or not re.fullmatch(r".* total=\d*[02468]>", cells):
+                wrong.append((told, cells))
+            # neither is above a half; one would be, were the total older than the rows
+            if summary.heavy_hitters("1/2", certain=True) or len(summary.heavy_hitters("1/4", certain=False)) != 2:
+                wrong.append(summary.items())
+            if re.fullmatch(r"<heavy.Summary k=5 total=\d*[02468] keys=2 slack=0>", repr(summary)) is None:
+                wrong.append(repr(summary))
+
+        works = [times(100, lambda: [file.update_many({"a": 1, "b": 1}) for file in (summary, table)])] * 4
+        self.assertEqual((at_once(*works, *[times(100, look)] * 4), wrong), ([], []))
+        self.assertEqual((summary.total, table.total), (802, 802))
+
+
+class Asking:
+    """A file of records that makes a call each time it is read."""
+
+    def __init__(self, call: object) -> None:
+        self.call, self.held = call, io.BytesIO(b"a,5\nb,3\n")
+
+    def read(self, size: int) -> bytes:
+        self.call()
+        return self.held.read(size)
+
+
+class LongChanges(unittest.TestCase):
+    """A change that reads a file while other calls come."""
+
+    def test_reads_go_on(self) -> None:
+        """While a file is read other threads find what was there before, and a copy may be changed."""
+        for file in (heavy.Summary.of_csv(b"z,9\n", 5), updated(heavy.Summary(k=5), ("z", 9)), heavy.Table.of_csv(b"z,9\n", 64)):
+            found: list[object] = []
+
+            def look() -> None:
+                found.append((file.total, file.ask("a")[1], updated(file.copy(), ("z", 1)).total, (file + file).total, file == file))
+
+            def ask() -> None:
+                thread = threading.Thread(target=look)
+                thread.start()
+                thread.join()
+                look()
+
+            file.update_csv(Asking(ask))
+            self.assertGreater(len(found), 3)
+            self.assertEqual(set(found), {(9, 0, 10, 18, True)})
+            self.assertEqual((file.total, file.ask("a")[1], file.ask("b")[1]), (17, 5, 3))
+
+    def test_other_changes_wait(self) -> None:
+        """A change by another thread is made once the file was read, and is not lost."""
+        for make in (lambda: heavy.Summary(k=5), lambda: heavy.Table(width=64)):
+            for change, added in (
+                (lambda it: it.update("z"), 1), (lambda it: it.update_many(["z", "z"]), 2), (lambda it: it.update_csv(b"z,7\n"), 7),
+                (lambda it: it.__iadd__(updated(make(), ("z", 4))), 4), (lambda it: updated(make(), ("z", 4)).__iadd__(it), 0),
+            ):
+                file, threads = make(), []
+
+                def begin() -> None:
+                    if not threads:
+                        threads.append(threading.Thread(target=change, args=(file,)))
+                        threads[0].start()
+
+                file.update_csv(Asking(begin))
+                threads[0].join()
+                self.assertEqual((file.total, file.ask("z")[1], file.ask("a")[1]), (8 + added, added, 5))
+
+    def test_a_change_within_one(self) -> None:
+        """A change within another of the same object, by one thread, is refused, and the object is as it was and can be changed."""
+        for make in (lambda: heavy.Summary(k=5), lambda: heavy.Table(width=64)):
+            for change in (
+                lambda it: it.update("z"), lambda it: it.update_many(["z"]), lambda it: it.update_csv(b"z\n"),
+                lambda it: it.__iadd__(make()), lambda it: make().__iadd__(it), lambda it: it.__iadd__(it),
+            ):
+                file = updated(make(), ("y", 2))
+                text = "^this thread is changing the object already; change it again once that call is done$"
+                self.assertRaisesRegex(RuntimeError, text, file.update_csv, Asking(lambda: change(file)))
+                self.assertEqual((file.total, updated(file, ("y", 3)).total), (2, 5))
+                call = heavy._library.calls.heavy_update
+                with mock.patch.object(heavy._library.calls, "heavy_update", lambda *words: [change(file), call(*words)][1]):
+                    self.assertRaisesRegex(RuntimeError, text, file.update, "y")
+                self.assertEqual((file.total, updated(file, ("y", 3)).total), (5, 8))
+
+    def test_interrupts(self) -> None:
+        """What a file's read raises leaves the object as it was, for other calls to change."""
+        def interrupt() -> None:
+            raise KeyboardInterrupt
+
+        for file in (updated(heavy.Summary(k=5), ("y", 2)), updated(heavy.Table(width=64), ("y", 2))):
+            for call in (lambda: file.update_csv(Asking(interrupt)), lambda: file.update_many(map(lambda key: interrupt(), "ab"))):
+                self.assertRaises(KeyboardInterrupt, call)
+            self.assertEqual(at_once(*[lambda: file.update("y")] * 8), [])
+            self.assertEqual((file.total, file.ask("y")[1]), (10, 10))
+
+    def test_items_may_ask(self) -> None:
+        """Keys and weights are taken before anything is changed, so an iterable of them may use the same object."""
+        for file in (heavy.Summary(k=5), heavy.Table(width=64)):
+            def keys() -> object:
+                for key in "ab":
+                    file.update("z")
+                    yield f"{key}{file.total}"
+
+            file.update_many(keys(), (file.total for _ in "ab"))
+            # z twice, and then a1 and b2, each of a weight that is the total then
+            self.assertEqual([file.ask(key)[1] for key in ("z", "a1", "b2")], [2, 2, 2])
+            self.assertEqual(file.total, 6)
+
+    def test_columns_beside_others(self) -> None:
+        """Equal keys of a column are one item only where no counter is lowered, also where others take the room meanwhile."""
+        if not has("pandas"):
+            self.skipTest("pandas is not here")
+        import pandas
+
+        texts = [*"abc"] * 400 + ["a"] * 100
+        column = pandas.Series(texts, dtype=object)
+        for others, room in ((0, 3), (1, 3), (2, 3), (3, 3)):
+            summary, items_of = heavy.Summary(k=3), heavy._files.items_of
+
+            def taken(*words: object) -> object:
+                found = items_of(*words)
+                with mock.patch.object(heavy._files, "items_of", items_of):
+                    if summary.total < others:
+                        summary.update_many([f"x{number}" for number in range(others)])
+                return found
+
+            with mock.patch.object(heavy._files, "items_of", taken):
+                summary.update_many(column)
+            items = [*((f"x{number}", 1) for number in range(others)), *((text, 1) for text in texts)]
+            self.assertEqual(summary.entries(), counted_by_hand(items, 3))
+
+    def test_saves(self) -> None:
+        """Eight threads save and load one path: each load is whole, and the rights of the file are those that the process gives."""
+        with tempfile.TemporaryDirectory() as room:
+            path = Path(room, "saved")
+            summary = heavy.Summary.of_csv(RECORDS, 2)
+            summary.save(path)
+            found: list[object] = []
+            works = [times(30, lambda: summary.save(path))] * 4 + [times(30, lambda: found.append(heavy.Summary.load(path).entries()))] * 4
+            self.assertEqual(at_once(*works), [])
+            self.assertEqual((len(found), [rows for rows in found if rows != [(b"a", 4), (b"b", 1)]]), (120, []))
+            self.assertEqual(os.listdir(room), ["saved"])
+            before = os.umask(0o027)
+            try:
+                with mock.patch.object(os, "umask", side_effect=AssertionError):  # it is one for all threads
+                    summary.save(path)
+            finally:
+                os.umask(before)
+            self.assertEqual(path.stat().st_mode & 0o777, 0o640)
 
 
 class GrowingTables(unittest.TestCase):

@@ -16,9 +16,9 @@ of pandas, or what Arrow's interface gives; none of these libraries is needed. `
 frame, and `heavy.dask` those of a collection.
 
 What has the wrong type is a `TypeError`, and a wrong value a `ValueError`: a `HeavyError`, with the program's text and
-exit status, where the library refuses it. Calls share nothing, and those that take long let other threads run meanwhile. A
-summary or table that one thread updates is for no other meanwhile. The library is looked for where LIBHEAVY says, in this
-folder, and then where the system looks.
+exit status, where the library refuses it. Any thread may make any call: each object has a lock of its own, so that its
+changes are made one after the other, and a read finds what is there between two of them. The library is looked for where
+LIBHEAVY says, in this folder, and then where the system looks.
 """
 import re as _re
 from pathlib import Path as _Path

@@ -7,8 +7,8 @@ import ctypes
 import importlib
 import itertools
 import os
+import secrets
 import struct
-import tempfile
 from concurrent.futures import ThreadPoolExecutor
 from pathlib import Path
 from typing import Any, Callable, Dict, Iterable, Iterator, List, NamedTuple, Optional, Tuple, TypeVar, overload
@@ -19,6 +19,7 @@ from ._growing import Growing
 from ._library import BAD_METHOD, BAD_RECORD, BAD_THRESHOLD, LARGE, MAX_KEY, MAX_TOTAL, MIXED_KINDS, NOT_COUNTERS, REFUSED
 from ._library import SMALL, TABLE, TOTAL_TOO_LARGE, USAGE, Entry, Fault, HashWords, HeavyError, InfoWords, Pair, answer, calls
 from ._library import checked, given, integer, joined, lent, random_words, word
+from ._lock import WITHIN, Lock, changing, reading
 from ._options import PLAIN, Layout, Threshold, share_of
 from ._records import Bounds, Given, Named, Records, Row, bytes_of, is_file, parts_of, records_in, rows_of, with_records
 
@@ -80,7 +81,8 @@ def _empty_table(width: int, depth: int, seed: int) -> bytes:
 
 
 class _File:
-    """A saved file: its bytes, or from the first item on that comes by itself the value of it that grows."""
+    """A saved file: its bytes, or from the first item on that comes by itself the value of it that grows. Who sets `_value` owns
+    the lock, and who uses one that grows holds the lock's mutex. A read takes the bytes once, and then needs no lock."""
 
     _row = ""  # what only a file of this kind has in its description
     _other: Tuple[int, int] = (0, 0)  # the numbers of the refusal of another kind
@@ -88,9 +90,20 @@ class _File:
     def __init__(self, saved: Given) -> None:
         self._value: bytes | Growing = bytes_of(saved)
         self._known: Tuple[Any, Any] = (None, None)  # the file's bytes, and what they say
+        self._lock = Lock()
 
     def __getstate__(self) -> Dict[str, Any]:
-        return {**self.__dict__, "_value": self.to_bytes(), "_known": (None, None)}
+        return self._state(self.to_bytes())
+
+    def __setstate__(self, state: Dict[str, Any]) -> None:
+        self.__dict__.update(state)
+        self._lock = Lock()
+
+    def _state(self, saved: bytes) -> Dict[str, Any]:
+        """What another object has of this one, with these bytes: neither the lock nor what was read of other bytes."""
+        state = {**self.__dict__, "_value": saved, "_known": (None, None)}
+        del state["_lock"]
+        return state
 
     @classmethod
     def load(cls: type[File], path: Named) -> File:
@@ -109,18 +122,15 @@ class _File:
         """Writes the file's bytes to this path. Who reads there meanwhile reads the old file or the new one, whole."""
         whole = self.to_bytes()
         place = Path(path)
-        made, name = tempfile.mkstemp(dir=place.parent, prefix=f".{place.name}.")
+        beside = place.parent / f".{place.name}.{secrets.token_hex(8)}"
         try:
-            with open(made, "wb") as file:
+            with open(beside, "xb") as file:
                 file.write(whole)
                 file.flush()
                 os.fsync(file.fileno())
-            mask = os.umask(0)
-            os.umask(mask)
-            os.chmod(name, 0o666 & ~mask)
-            os.replace(name, place)
+            os.replace(beside, place)
         except BaseException:
-            os.unlink(name)
+            beside.unlink(missing_ok=True)
             raise
 
     def to_bytes(self) -> bytes:
@@ -130,10 +140,14 @@ class _File:
         (5, 5)
         """
         value = self._value
-        return value if isinstance(value, bytes) else value.saved()
+        if isinstance(value, bytes):
+            return value
+        with self._lock.mutex:
+            value = self._value
+            return value if isinstance(value, bytes) else value.saved()
 
     def _grown(self) -> Growing:
-        """The file's value, which has to be of this kind, as it grows from now on."""
+        """The file's value, which has to be of this kind, as it grows from now on. The caller owns the lock."""
         self._told()
         self._value = value = Growing(self.to_bytes())
         return value
@@ -155,10 +169,14 @@ class _File:
         >>> Table.of_csv(b"a,5\\n", 8, 2).describe().total
         5
         """
-        saved = self.to_bytes()
-        if self._known[0] is not saved:
-            self._known = saved, _info(saved)
-        found: Info = self._known[1]
+        return self._described(self.to_bytes())
+
+    def _described(self, saved: bytes) -> Info:
+        """What is in the file whose bytes are these."""
+        known = self._known
+        if known[0] is not saved:
+            self._known = known = saved, _info(saved)
+        found: Info = known[1]
         return found
 
     def describe_csv(self) -> bytes:
@@ -203,8 +221,16 @@ class _File:
         # bytes and int are most of what comes, and are tested here alone
         held = key if type(key) is bytes and 1 <= len(key) <= MAX_KEY else bytes_of_key(key)
         number = weight if type(weight) is int and 1 <= weight <= MAX_TOTAL else integer_of_weight(weight)
-        value = self._value
-        (value if isinstance(value, Growing) else self._grown()).add(held, number)
+        lock = self._lock
+        with lock.mutex:
+            if lock.owner is not None:
+                lock.wait()
+            lock.owner = WITHIN
+            try:
+                value = self._value
+                (value if isinstance(value, Growing) else self._grown()).add(held, number)
+            finally:
+                lock.owner = None
 
     def update_many(self, keys: Keys, weights: Iterable[int] | None = None) -> None:
         """Adds an item for each of these keys, in order, with as many weights, or else of weight 1 each; or the keys and
@@ -227,16 +253,22 @@ class _File:
         """
         if isinstance(keys, _File):
             raise TypeError(f"keys is a {type(keys).__name__}, which is merged, as by +=")
-        self._add(items_of(keys, weights, self._room() if hasattr(keys, "to_numpy") else 0))
+        if not self._add(items_of(keys, weights, self._room() if hasattr(keys, "to_numpy") else 0), ordered=True):
+            self._add(items_of(keys, weights))
 
     def _room(self) -> int:
         """How many different keys may come in any order for the same bytes."""
         return ANY
 
-    def _add(self, items: Items) -> None:
-        """Adds items that were checked."""
-        self._check_total(items.many, items.given)
-        self._value = self._with(items)
+    def _add(self, items: Items, ordered: bool = False) -> bool:
+        """Adds items that were checked, and tells whether it did: not those with equal keys as one where they have to be added in
+        order, and other threads have left them too little room."""
+        with changing(self._lock):
+            if ordered and self._room() < len(items.columns.ends) < items.many:
+                return False
+            self._check_total(items.many, items.given)
+            self._value = self._with(items)
+            return True
 
     def _with(self, items: Items) -> bytes:
         """The file's bytes with items added."""
@@ -251,7 +283,8 @@ class _File:
         >>> summary.entries()
         [(b'a', 7), (b'b', 1)]
         """
-        self._value = with_records(self.to_bytes(), records, layout, self._begun(layout))
+        with changing(self._lock):
+            self._value = with_records(self.to_bytes(), records, layout, self._begun(layout))
 
     def _begun(self, layout: Layout) -> Callable[[bytes], bytes] | None:
         """What makes a file of this kind of a text's records, where that is faster than to add them to one of no items."""
@@ -268,8 +301,8 @@ class _File:
 
     def _like(self: File, saved: bytes) -> File:
         """Another file of this kind, whose keys come back as this one's do."""
-        made = copy.copy(self)
-        made._value = saved
+        made = type(self).__new__(type(self))
+        made.__setstate__(self._state(saved))
         return made
 
     def __add__(self: File, other: File) -> File:
@@ -302,14 +335,15 @@ class _File:
         """
         if type(other) is not type(self):
             return NotImplemented
-        self._value = merge(self, other).to_bytes()
+        with changing(self._lock, other._lock):
+            self._value = merge(self, other).to_bytes()
         return self
 
     __ior__ = __iadd__
 
-    def _told(self) -> Info:
-        """What is in the file, which has to be of this kind."""
-        info = self.describe()
+    def _told(self, saved: bytes | None = None) -> Info:
+        """What is in the file, which has to be of this kind: as it is now, or as these bytes are."""
+        info = self._described(self.to_bytes() if saved is None else saved)
         if getattr(info, self._row) is None:
             raise HeavyError(REFUSED, self._other[0], 0, self._other[1])
         return info
@@ -331,7 +365,8 @@ class _File:
         """
         if not isinstance(other, type(self)):
             return NotImplemented
-        return self.to_bytes() == other.to_bytes()
+        with reading([self._lock, other._lock]):
+            return self.to_bytes() == other.to_bytes()
 
     __hash__ = None  # type: ignore[assignment]
 
@@ -374,8 +409,8 @@ class Summary(_File):
         self.text = bool(text)
         self._rows: Tuple[Any, Any] = (None, None)  # the file's bytes, and its rows by key
 
-    def __getstate__(self) -> Dict[str, Any]:
-        return {**super().__getstate__(), "_rows": (None, None)}
+    def _state(self, saved: bytes) -> Dict[str, Any]:
+        return {**super()._state(saved), "_rows": (None, None)}
 
     @classmethod
     def of_csv(
@@ -427,30 +462,30 @@ class Summary(_File):
 
     def _room(self) -> int:
         # where no counter is lowered each is the sum of its key's weights
-        return self.k - len(self)
+        info = self._told()
+        return (info.k or 0) - (info.keys or 0)
 
     def _begun(self, layout: Layout) -> Callable[[bytes], bytes] | None:
-        k = self.k
-        if self.total:
+        info = self._told()
+        if info.total:
             return None
+        k = info.k or 0
         guess = min(17 + k * (MAX_KEY + 10), LARGE)
         return lambda text: answer(calls.heavy_summarise_records, *lent(text), *layout._words(), k, guess=guess)
 
     def _number(self, name: str) -> int:
         return int(getattr(self._told(), name))
 
-    def _key(self, key: bytes) -> Any:
-        """A key as it comes back."""
-        return text_of_bytes(key) if self.text else key
-
-    def _by_key(self) -> Dict[bytes, Bounds]:
-        """The rows by the bytes of their keys, by falling low and then by rising key."""
-        saved = self.to_bytes()
-        if self._rows[0] is not saved or self._rows[1].text != self.text:
-            slack = self.slack
+    def _by_key(self, saved: bytes | None = None) -> Dict[bytes, Bounds]:
+        """The rows by the bytes of their keys, by falling low and then by rising key: as they are now, or of these bytes."""
+        saved = self.to_bytes() if saved is None else saved
+        text, known = self.text, self._rows
+        if known[0] is not saved or known[1].text != text:
+            slack = self._told(saved).slack or 0
             ordered = sorted(_entries(saved), key=lambda entry: (-entry[1], entry[0]))
-            self._rows = saved, _Rows(self.text, {key: Bounds(self._key(key), low, low + slack) for key, low in ordered})
-        found: Dict[bytes, Bounds] = self._rows[1].rows
+            rows = {key: Bounds(_key(key, text), low, low + slack) for key, low in ordered}
+            self._rows = known = saved, _Rows(text, rows)
+        found: Dict[bytes, Bounds] = known[1].rows
         return found
 
     def __len__(self) -> int:
@@ -563,16 +598,18 @@ class Summary(_File):
         """
         if not isinstance(certain, bool):
             raise TypeError(f"certain must be True or False, not {type(certain).__name__!r}")
-        p, q = self._share(threshold)
-        least = p * self.total
-        return [row for row in self.items() if (row.low if certain else row.high) * q > least]
+        saved = self.to_bytes()
+        info = self._told(saved)
+        p, q = self._share(threshold, info.k or 0)
+        least = p * info.total
+        return [row for row in self._by_key(saved).values() if (row.low if certain else row.high) * q > least]
 
-    def _share(self, threshold: Threshold) -> Tuple[int, int]:
+    def _share(self, threshold: Threshold, k: int) -> Tuple[int, int]:
         """A share of at least 1/(k + 1), which is that of no threshold."""
         p, q = share_of(threshold)
         if not p:
-            return 1, self.k + 1
-        if p * (self.k + 1) < q:
+            return 1, k + 1
+        if p * (k + 1) < q:
             raise HeavyError(USAGE, BAD_THRESHOLD, 0, 0)
         return p, q
 
@@ -586,7 +623,8 @@ class Summary(_File):
         >>> Summary.of_csv(b"b,5\\na,2\\n").entries()
         [(b'a', 2), (b'b', 5)]
         """
-        return [(self._key(key), counter) for key, counter in _entries(self.to_bytes())]
+        text = self.text
+        return [(_key(key, text), counter) for key, counter in _entries(self.to_bytes())]
 
     def __repr__(self) -> str:
         """What is in the summary, or how its file is refused.
@@ -595,7 +633,8 @@ class Summary(_File):
         (<heavy.Summary k=100 total=5 keys=1 slack=0>, <heavy.Summary file 1: truncated>)
         """
         try:
-            return f"<heavy.Summary k={self.k} total={self.total} keys={len(self)} slack={self.slack}>"
+            info = self._told()
+            return f"<heavy.Summary k={info.k} total={info.total} keys={info.keys} slack={info.slack}>"
         except HeavyError as refused:
             return f"<heavy.Summary {refused}>"
 
@@ -661,6 +700,11 @@ class Summary(_File):
         [Row(key=b'a', weight=5)]
         """
         return self._condensed(items_of(keys, weights, ANY))
+
+
+def _key(key: bytes, text: bool) -> Any:
+    """A key as it comes back."""
+    return text_of_bytes(key) if text else key
 
 
 class _Rows(NamedTuple):
@@ -744,7 +788,8 @@ class Table(_File):
         (<heavy.Table width=8 depth=2 total=0>, <heavy.Table file 1: truncated>)
         """
         try:
-            return f"<heavy.Table width={self.width} depth={self.depth} total={self.total}>"
+            info = self._told()
+            return f"<heavy.Table width={info.width} depth={info.depth} total={info.total}>"
         except HeavyError as refused:
             return f"<heavy.Table {refused}>"
 
@@ -778,7 +823,8 @@ def merge(first: File | Iterable[File], *others: File) -> File:
             raise TypeError(f"files[{index}] must be a Summary or a Table, not {type(file).__name__!r}")
     if not listed:
         raise ValueError("there is no file to merge")
-    files = [file.to_bytes() for file in listed]
+    with reading([file._lock for file in listed]):
+        files = [file.to_bytes() for file in listed]
     sizes = [len(file) for file in files]
     return listed[0]._like(answer(calls.heavy_merge, *joined(files), guess=max(min(sum(sizes), LARGE), max(sizes))))
 

@@ -131,13 +131,14 @@ def _type_calls(library: ctypes.CDLL) -> None:
 
 
 def _type_calls_on_growing(library: ctypes.CDLL) -> None:
-    """Gives the calls on a value that grows their types. They keep Python's lock: no two threads use one value at once, and a
-    thread that adds items doesn't wait for the others at each."""
+    """Gives the calls on a value that grows their types. Other threads run while one is opened or saved. To add an item takes
+    less than to wait for them, so that call keeps Python's lock, where there is one. `_lock` keeps two threads from one value."""
     growing = ctypes.POINTER(GrowingWords)
+    library.heavy_open_by.argtypes = [_READ, _SIZE, ctypes.POINTER(HashWords), growing, _FAULT]
+    library.heavy_save.argtypes = [growing, *_OUT]
+    library.heavy_open_by.restype = library.heavy_save.restype = ctypes.c_uint32
     words: dict[str, list[Any]] = {
-        "heavy_open_by": [_READ, _SIZE, ctypes.POINTER(HashWords), growing, _FAULT],
         "heavy_update": [],  # Python would take longer to compare the arguments with their types than to add an item
-        "heavy_save": [growing, *_OUT],
         "heavy_free": [growing],
     }
     for name, kinds in words.items():

@@ -81,7 +81,7 @@ def _two_passes(
     """The summary of a collection, and fewer records that confirm the same."""
     share_of(threshold)
     whole = summary(collection, key, weight, k, layout=layout, text=text)
-    whole._share(threshold)
+    whole._share(threshold, k)
     parts = _parts(collection, key, weight)
     # the bytes go out with each task: fetched from a worker that is lost, they would be waited for
     return whole, b"".join(_computed(_each(_condense, parts, key, weight, whole.to_bytes(), layout)))
