@@ -4,6 +4,7 @@ from __future__ import annotations
 
 import array
 import collections
+import collections.abc
 import contextlib
 import copy
 import ctypes
@@ -94,7 +95,7 @@ class Pages(unittest.TestCase):
             caller = Path(room, "caller.py")
             caller.write_text(
                 "import heavy\nsummary = heavy.Summary(k=5)\nsummary.update_many(['a'], [1])\nsummary.update_many({'a': 1})\n"
-                "both: heavy.Summary = summary + summary\nlow: int = both.top(1)[0].low\nsummary.update(5)\n"
+                "both: heavy.Summary = summary + summary\nlow: int = both.top(1)[0].low + both['a'].low\nsummary.update(5)\n"
                 "heavy.merge(summary, heavy.Table()).entries()\n"
             )
             words = [sys.executable, "-m", "mypy", "--strict", "--cache-dir", room]
@@ -183,7 +184,7 @@ class Growing(unittest.TestCase):
         for summary, k in ((heavy.Summary(), 100), (heavy.Summary(k=7), 7), (heavy.Summary(k=65535), 65535)):
             self.assertEqual((summary.k, summary.total, summary.slack, len(summary)), (k, 0, 0, 0))
             self.assertEqual(summary.to_bytes(), program("summarise", "--k", str(k)).stdout)
-            self.assertEqual((summary.items(), bool(summary), summary.ask("a")), ([], True, (0, 0)))
+            self.assertEqual((summary.rows(), bool(summary), summary.ask("a")), ([], True, (0, 0)))
         for k in (0, 65536):
             with self.assertRaisesRegex(heavy.HeavyError, "k must be 1 to 65535"):
                 heavy.Summary(k=k)
@@ -197,12 +198,12 @@ class Growing(unittest.TestCase):
         summary.update_many(iter(["b", b"c"]), (Index(3), Index(2)))
         summary.update(memoryview(b"a"))
         self.assertEqual((summary.total, summary.slack, len(summary)), (11, 2, 2))
-        self.assertEqual(summary.items(), [(b"a", 4, 6), (b"b", 1, 3)])
+        self.assertEqual(summary.rows(), [(b"a", 4, 6), (b"b", 1, 3)])
         self.assertEqual(summary, heavy.Summary.of_csv(RECORDS, 2))
         self.assertEqual(repr(summary), "<heavy.Summary k=2 total=11 keys=2 slack=2>")
         summary.update_many(["é", "é"])
         # 1 is taken at the first: b has 0 and goes, a has 3, and the first é leaves nothing; the second stays
-        self.assertEqual(summary.items(), [(b"a", 3, 6), ("é".encode(), 1, 4)])
+        self.assertEqual(summary.rows(), [(b"a", 3, 6), ("é".encode(), 1, 4)])
         summary.update_many([])
         self.assertEqual(summary.total, 13)
 
@@ -259,7 +260,7 @@ class Growing(unittest.TestCase):
         same = summary
         summary += other
         self.assertIs(summary, same)
-        self.assertEqual((summary.items(), summary.total), ([(b"a", 9, 9), (b"b", 1, 1)], 10))
+        self.assertEqual((summary.rows(), summary.total), ([(b"a", 9, 9), (b"b", 1, 1)], 10))
         summary += summary
         self.assertEqual(summary.entries(), [(b"a", 18), (b"b", 2)])
         with self.assertRaisesRegex(heavy.HeavyError, "file 2: another k"):
@@ -610,21 +611,63 @@ class Mappings(unittest.TestCase):
         summary = heavy.Summary.of_csv(RECORDS, 2)
         for key in ("a", b"a", bytearray(b"a"), memoryview(b"a")):
             self.assertTrue(key in summary)
-            self.assertEqual(summary[key], (b"a", 4, 6))
+            self.assertEqual((summary[key], summary[key].low, summary[key].high), ((4, 6), 4, 6))
             self.assertEqual(summary.get(key), summary[key])
         for key in ("c", b"nobody", "", "x" * 4097, "\ud800"):
             self.assertFalse(key in summary)
             self.assertRaises(KeyError, summary.__getitem__, key)
             self.assertEqual((summary.get(key), summary.get(key, 5)), (None, 5))
         self.assertEqual([*summary], [b"a", b"b"])
-        self.assertEqual((summary.keys(), len(summary)), ([b"a", b"b"], 2))
-        self.assertEqual(summary.items(), [(b"a", 4, 6), (b"b", 1, 3)])
-        self.assertEqual(summary.list(), summary.items())
-        self.assertEqual(dict(summary), {b"a": (b"a", 4, 6), b"b": (b"b", 1, 3)})
-        self.assertEqual(summary.items()[0]._asdict(), {"key": b"a", "low": 4, "high": 6})
+        self.assertEqual(([*summary.keys()], len(summary), len(summary.items()), len(summary.values())), ([b"a", b"b"], 2, 2, 2))
+        self.assertEqual(summary.rows(), [(b"a", 4, 6), (b"b", 1, 3)])
+        self.assertEqual(summary.rows()[0]._asdict(), {"key": b"a", "low": 4, "high": 6})
         for file in (heavy.Summary(b"HHS"), heavy.Summary(heavy.Table().to_bytes())):
-            for call in (lambda: "a" in file, lambda: file["a"], file.keys, file.items, lambda: file.top(1), file.heavy_hitters):
+            for call in (lambda: "a" in file, lambda: file["a"], lambda: [*file], lambda: [*file.items()], file.rows, lambda: file.top(1)):
                 self.assertRaises(heavy.HeavyError, call)
+
+    def test_any_mapping(self) -> None:
+        """A summary does what any mapping does, with a weight's two bounds as values; where one number is wanted, it says so."""
+        for text, a, b in ((False, b"a", b"b"), (True, "a", "b")):
+            summary, wanted = heavy.Summary.of_csv(RECORDS, 2, text=text), {a: (4, 6), b: (1, 3)}
+            self.assertIsInstance(summary, collections.abc.Mapping)
+            for made in (dict(summary), dict(summary.items()), {**summary}, dict(zip(summary.keys(), summary.values())), {} | {**summary}):
+                self.assertEqual((made, [*made]), (wanted, [a, b]))
+            self.assertEqual((summary.keys() & {a, "z"}, summary.keys() == {a, b}), ({a}, True))
+            self.assertEqual([(a, (4, 6)) in summary.items(), (a, 4) in summary.items(), (4, 6) in summary.values(), 4 in summary.values()],
+                             [True, False, True, False])
+            self.assertEqual(collections.Counter(summary).most_common(1), [(a, (4, 6))])
+            self.assertEqual(max(summary.items(), key=lambda item: item[1]), (a, (4, 6)))
+            self.assertEqual(collections.ChainMap({}, summary)[b].high, 3)
+            self.assertEqual(collections.Counter({key: found.low for key, found in summary.items()}), {a: 4, b: 1})
+            again = summary.items(), summary.values(), summary.keys()
+            summary.update("c", 9)
+            # c comes to b's place: of the counters 4, 1 and 9 each loses 1
+            self.assertEqual([*again[0]], [(summary.rows()[0].key, (8, 11)), (a, (3, 6))])
+            self.assertEqual([[*again[1]], [*again[2]]], [[(8, 11), (3, 6)], [*summary]])
+        counted, whole = collections.Counter("ab"), heavy.Summary.of_csv(b"a,5\n", text=True)
+        for call in (
+            lambda: collections.Counter(whole) + counted, lambda: counted + collections.Counter(whole), lambda: counted.update(whole),
+            lambda: collections.Counter(whole) - counted, lambda: counted - collections.Counter(whole), lambda: sum(whole.values()),
+            lambda: counted.subtract(whole), collections.Counter(whole).total,
+        ):
+            self.assertRaisesRegex(TypeError, "^an Interval is no number, .*; take its low or its high$", call)
+        for call in (whole.confirm_items, whole.condense_items, lambda given: whole.update_many({**given})):
+            self.assertRaisesRegex(TypeError, r"^weights\['a'\]: .* not 'Interval'; take its low or its high$", call, whole)
+        self.assertEqual(whole.total, 5)
+        self.assertEqual(pickle.loads(pickle.dumps(whole["a"])), heavy.Interval(5, 5))
+
+    def test_iterations_beside_changes(self) -> None:
+        """An iteration has what was there when it began."""
+        summary = heavy.Summary.of_csv(RECORDS, 2, text=True)
+        for begin, wanted in (
+            (iter, ["a", "b"]), (lambda it: iter(it.keys()), ["a", "b"]), (lambda it: iter(it.values()), [(4, 6), (1, 3)]),
+            (lambda it: iter(it.items()), [("a", (4, 6)), ("b", (1, 3))]),
+        ):
+            grown = summary.copy()
+            begun = begin(grown)
+            found = [next(begun)]
+            grown.update("z", 100)
+            self.assertEqual((found + [*begun], "b" in grown), (wanted, False))
 
     def test_what_was_asked_before(self) -> None:
         """What a summary remembers of its rows goes with the next item, of whatever call."""
@@ -638,8 +681,8 @@ class Mappings(unittest.TestCase):
             self.assertEqual([*before], [*summary])
             change()
             again = heavy.Summary(summary.to_bytes())
-            self.assertEqual((summary.items(), summary.describe(), summary.total), (again.items(), again.describe(), again.total))
-            self.assertNotEqual(summary.items(), before.items())
+            self.assertEqual((summary.rows(), summary.describe(), summary.total), (again.rows(), again.describe(), again.total))
+            self.assertNotEqual(summary.rows(), before.rows())
 
     def test_top(self) -> None:
         summary = heavy.Summary.of_csv(b"b,2\nc,7\na,2\nd,1\n", 9)
@@ -699,7 +742,7 @@ class Mappings(unittest.TestCase):
         for summary in (heavy.Summary.of_csv(RECORDS, 2, text=True), heavy.Summary(k=2)):
             frame = summary.to_frame()
             self.assertEqual([*frame.columns], ["key", "low", "high"])
-            self.assertEqual([*frame.itertuples(index=False, name=None)], summary.items())
+            self.assertEqual([*frame.itertuples(index=False, name=None)], summary.rows())
 
 
 class Rows(unittest.TestCase):
@@ -744,7 +787,7 @@ class Rows(unittest.TestCase):
         again = heavy.Summary(k=5, text=True)
         again.update_many([*summary], [5, 3, 2])
         again.update(texts[2])
-        self.assertEqual((again.ask(texts[2]), again["é"], texts[2] in again), ((3, 3), ("é", 5, 5), True))
+        self.assertEqual((again.ask(texts[2]), again["é"], texts[2] in again), ((3, 3), (5, 5), True))
         self.assertEqual([row.key for row in heavy.report(records, 9, text=True)], texts)
         summary.text = False
         self.assertEqual([*summary], [text.encode("utf-8", "surrogateescape") for text in texts])
@@ -848,7 +891,7 @@ class Collections(unittest.TestCase):
                     self.assertEqual(found, self.rows(k, Fraction(threshold) if threshold else None))
                 summary = heavy.dask.summary(collection, *words, k=1000)
                 self.assertEqual(summary.total, sum(self.exact.values()))
-                self.assertEqual({row.key: row.low for row in summary.items()}, {
+                self.assertEqual({row.key: row.low for row in summary.rows()}, {
                     key if number != 8 else key.encode(): weight for key, weight in self.exact.items()
                 })
 
@@ -1001,7 +1044,7 @@ class Sequence:
         """What the summary and the table say is right for the exact weights."""
         total = sum(self.exact.values())
         assert self.summary.total == self.table.total == total, "totals"
-        slack, rows = self.summary.slack, self.summary.items()
+        slack, rows = self.summary.slack, self.summary.rows()
         assert slack * (self.k + 1) <= total and len(rows) == len(self.summary) <= self.k, "slack"
         assert rows == sorted(rows, key=lambda row: (-row.low, row.key.encode())), "order"
         assert slack == (total - sum(row.low for row in rows)) // (self.k + 1), "the slack is what the counters lack"
@@ -1188,7 +1231,8 @@ class OneObject(unittest.TestCase):
         self.assertEqual(ahead(first + second), 0)
 
     READS = {
-        "items": lambda it: {row.key: row.low for row in it.items()},
+        "rows": lambda it: {row.key: row.low for row in it.rows()},
+        "items": lambda it: {key: found.low for key, found in it.items()},
         "entries": lambda it: dict(it.entries()),
         "top": lambda it: {row.key: row.low for row in it.top(3)},
         "list_csv": lambda it: {row.key: row.weight for row in heavy._records.rows_of(re.sub(b",[0-9]+\n", b"\n", it.list_csv()), True)},
@@ -1231,7 +1275,7 @@ class OneObject(unittest.TestCase):
                 wrong.append((told, cells))
             # neither is above a half; one would be, were the total older than the rows
             if summary.heavy_hitters("1/2", certain=True) or len(summary.heavy_hitters("1/4", certain=False)) != 2:
-                wrong.append(summary.items())
+                wrong.append(summary.rows())
             if re.fullmatch(r"<heavy.Summary k=5 total=\d*[02468] keys=2 slack=0>", repr(summary)) is None:
                 wrong.append(repr(summary))
 
@@ -1866,7 +1910,7 @@ class Reports(unittest.TestCase):
         for k in (1, 3, 50):
             text = b"".join(b"k%d,%d\n" % (draw.randrange(40), draw.randrange(1, 9)) for _ in range(300))
             summary = heavy.Summary.of_csv(text, k)
-            rows = summary.items()
+            rows = summary.rows()
             self.assertEqual(sorted((key, low) for key, low, _ in rows), sorted(summary.entries()))
             self.assertEqual([(low, high) for _, low, high in rows], summary.ask_many([key for key, _, _ in rows]))
 
@@ -1947,7 +1991,7 @@ class Layouts(unittest.TestCase):
         records = b"5,x,a\n.3,y,b\n1.5,x,a\n2,x,c\n"
         self.assertEqual(heavy.report(records, 2, layout=layout, text=True), [("a,x", Decimal("6.5"))])
         # a summary counts tenths
-        self.assertEqual(heavy.Summary.of_csv(records, 9, layout=layout).items()[0], (b"a,x", 65, 65))
+        self.assertEqual(heavy.Summary.of_csv(records, 9, layout=layout).rows()[0], (b"a,x", 65, 65))
 
     def test_refusals(self) -> None:
         for text, options, words in (

@@ -47,7 +47,8 @@ GIVEN = {
     "(len(visits), visits.total, visits.slack)": "(3, 11, 0)",
     "('10.0.0.3' in visits, visits['10.0.0.2'].low)": "(True, 5)",
     "list(visits)": "['10.0.0.1', '10.0.0.2', '10.0.0.3']",
-    "visits.items()": "[Bounds(key='10.0.0.1', low=5, high=5), Bounds(key='10.0.0.2', low=5, high=5), Bounds(key='10.0.0.3', low=1, high=1)]",
+    "visits.rows()": "[Bounds(key='10.0.0.1', low=5, high=5), Bounds(key='10.0.0.2', low=5, high=5), Bounds(key='10.0.0.3', low=1, high=1)]",
+    "dict(visits.items())": "{'10.0.0.1': Interval(low=5, high=5), '10.0.0.2': Interval(low=5, high=5), '10.0.0.3': Interval(low=1, high=1)}",
     "visits.confirm_items(['10.0.0.1', '10.0.0.2', '10.0.0.3'], [5, 5, 1], threshold=0.25)":
         "[Row(key='10.0.0.1', weight=5), Row(key='10.0.0.2', weight=5)]",
     "cells.estimate('10.0.0.1')": "2",

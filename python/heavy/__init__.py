@@ -6,6 +6,7 @@
     both.update("10.0.0.1", 5)                    # one item more; heavy.Summary(k=100) begins empty
     both.update_many({"10.0.0.1": 5})             # many: keys, keys and weights, or a mapping
     both.ask(b"10.0.0.1")                         # (least, most)
+    both["10.0.0.1"].low                          # a mapping from keys to the least and the most
     both.top(10)                                  # rows of a key, its least and its most
     both.confirm(records)                         # rows of a key and its weight, exact
     both.condense(part)                           # fewer records that confirm the same
@@ -27,11 +28,11 @@ from . import dask, pandas
 from ._files import Info, Summary, Table, merge, report, report_csv
 from ._library import HeavyError
 from ._options import Layout
-from ._records import Bounds, Row
+from ._records import Bounds, Interval, Row
 
-__all__ = ["Bounds", "HeavyError", "Info", "Layout", "Row", "Summary", "Table", "merge", "report", "report_csv"]
+__all__ = ["Bounds", "HeavyError", "Info", "Interval", "Layout", "Row", "Summary", "Table", "merge", "report", "report_csv"]
 
-for _public in (Bounds, HeavyError, Info, Layout, Row, Summary, Table, merge, report, report_csv):
+for _public in (Bounds, HeavyError, Info, Interval, Layout, Row, Summary, Table, merge, report, report_csv):
     _public.__module__ = __name__
 
 

@@ -83,7 +83,8 @@ def _refused_key(size: int) -> ValueError:
 def integer_of_weight(weight: int) -> int:
     """A weight that an item can have."""
     if isinstance(weight, bool) or not hasattr(weight, "__index__"):
-        raise TypeError(f"a weight must be an integer, not {type(weight).__name__!r}")
+        advice = "; take its low or its high" if hasattr(weight, "low") else ""
+        raise TypeError(f"a weight must be an integer, not {type(weight).__name__!r}{advice}")
     number = operator.index(weight)
     if not 1 <= number <= MAX_TOTAL:
         raise ValueError(f"a weight must be from 1 to 2^63 - 1, not {number}")

@@ -9,6 +9,7 @@ import itertools
 import os
 import secrets
 import struct
+from collections.abc import ItemsView, Mapping, ValuesView
 from concurrent.futures import ThreadPoolExecutor
 from pathlib import Path
 from typing import Any, Callable, Dict, Iterable, Iterator, List, NamedTuple, Optional, Tuple, TypeVar, overload
@@ -21,7 +22,7 @@ from ._library import SMALL, TABLE, TOTAL_TOO_LARGE, USAGE, Entry, Fault, HashWo
 from ._library import checked, given, integer, joined, lent, random_words, word
 from ._lock import WITHIN, Lock, changing, reading
 from ._options import PLAIN, Layout, Threshold, share_of
-from ._records import Bounds, Given, Named, Records, Row, bytes_of, is_file, parts_of, records_in, rows_of, with_records
+from ._records import Bounds, Given, Interval, Named, Records, Row, bytes_of, is_file, parts_of, records_in, rows_of, with_records
 
 _COLUMN_BATCH = 1 << 20  # items of a column that the library adds at once
 _METHODS = ("mg", "ss")
@@ -371,11 +372,34 @@ class _File:
     __hash__ = None  # type: ignore[assignment]
 
 
-class Summary(_File):
+class _Items(ItemsView[Any, Interval]):
+    """The keys and intervals of a summary. An iteration has them as they were when it began."""
+
+    _mapping: Summary
+
+    def __iter__(self) -> Iterator[Tuple[Any, Interval]]:
+        return iter([(row.key, Interval(row.low, row.high)) for row in self._mapping.rows()])
+
+
+class _Values(ValuesView[Interval]):
+    """The intervals of a summary. An iteration has them as they were when it began."""
+
+    _mapping: Summary
+
+    def __iter__(self) -> Iterator[Interval]:
+        return iter([Interval(row.low, row.high) for row in self._mapping.rows()])
+
+    def __contains__(self, value: object) -> bool:
+        return any(value == one for one in self)
+
+
+class Summary(_File, Mapping[Any, Interval]):
     """A summary of counters: a saved one, or with k alone a new one of no items, which grows by `update`.
 
-    It is a mapping from the keys that have a counter to rows of a key, the least and the most of its weight. Keys come back
-    as bytes, or with `text` as str.
+    It is a mapping from the keys that have a counter to the least and the most of their weights, by falling low and then by
+    rising key. Keys come back as bytes, or with `text` as str. An iteration, over `items` or `values` too, has what was there
+    when it began. `dict(summary)` and `Counter(summary)` ask key by key: where other threads change the summary meanwhile,
+    `dict(summary.items())` is of one time. `rows` has rows of a key, its least and its most.
 
     >>> summary = Summary(k=2, text=True)
     >>> summary.update_many(["a", "b", "a"])
@@ -384,7 +408,9 @@ class Summary(_File):
     >>> list(summary), "a" in summary, "c" in summary
     (['a', 'b'], True, False)
     >>> summary["a"]
-    Bounds(key='a', low=2, high=2)
+    Interval(low=2, high=2)
+    >>> dict(summary.items()) == dict(summary)
+    True
     """
 
     _row, _other = "k", (NOT_COUNTERS, 0)
@@ -435,7 +461,7 @@ class Summary(_File):
         >>> import tempfile
         >>> with tempfile.TemporaryDirectory() as folder:
         ...     Summary.of_csv(b"a,5\\n").save(f"{folder}/a.heavy")
-        ...     Summary.load(f"{folder}/a.heavy", text=True).keys()
+        ...     [*Summary.load(f"{folder}/a.heavy", text=True)]
         ['a']
         """
         made = super().load(path)
@@ -506,9 +532,9 @@ class Summary(_File):
         >>> [*Summary.of_csv(b"b\\na,5\\n")]
         [b'a', b'b']
         """
-        return iter(self.keys())
+        return iter([row.key for row in self.rows()])
 
-    def __contains__(self, key: Key) -> bool:
+    def __contains__(self, key: Any) -> bool:
         """Whether a key has a counter.
 
         >>> "a" in Summary.of_csv(b"a,5\\n")
@@ -516,25 +542,25 @@ class Summary(_File):
         """
         return self.get(key) is not None
 
-    def __getitem__(self, key: Key) -> Bounds:
-        """The row of a key that has a counter; of another key a `KeyError`. `ask` tells the bounds of any key.
+    def __getitem__(self, key: Key) -> Interval:
+        """The least and the most that a key with a counter weighs; of another key a `KeyError`. `ask` tells those of any key.
 
         >>> Summary.of_csv(b"b\\na,5\\n")["a"]
-        Bounds(key=b'a', low=5, high=5)
+        Interval(low=5, high=5)
         """
-        row = self.get(key)
-        if row is None:
+        found = self.get(key)
+        if found is None:
             raise KeyError(key)
-        return row
+        return found
 
     @overload
-    def get(self, key: Key) -> Optional[Bounds]: ...
+    def get(self, key: Key) -> Optional[Interval]: ...
 
     @overload
     def get(self, key: Key, default: Any) -> Any: ...
 
     def get(self, key: Key, default: Any = None) -> Any:
-        """The row of a key that has a counter, or else the default.
+        """The least and the most that a key with a counter weighs, or else the default.
 
         >>> Summary.of_csv(b"a,5\\n").get("b", 0)
         0
@@ -543,29 +569,36 @@ class Summary(_File):
             held = bytes_of_key(key)
         except ValueError:  # no key has so many bytes
             return default
-        return self._by_key().get(held, default)
+        row = self._by_key().get(held)
+        return default if row is None else Interval(row.low, row.high)
 
-    def keys(self) -> List[Any]:
-        """The keys that have a counter, by falling low and then by rising key.
+    def items(self) -> ItemsView[Any, Interval]:
+        """The keys that have a counter, each with the least and the most of its weight, as a view.
 
-        >>> Summary.of_csv(b"b\\na,5\\n", text=True).keys()
-        ['a', 'b']
+        >>> [*Summary.of_csv(b"b\\na,5\\n").items()]
+        [(b'a', Interval(low=5, high=5)), (b'b', Interval(low=1, high=1))]
         """
-        return [row.key for row in self._by_key().values()]
+        return _Items(self)
 
-    def items(self) -> List[Bounds]:
+    def values(self) -> ValuesView[Interval]:
+        """The least and the most of the weight of each key that has a counter, as a view.
+
+        >>> [*Summary.of_csv(b"b\\na,5\\n").values()]
+        [Interval(low=5, high=5), Interval(low=1, high=1)]
+        """
+        return _Values(self)
+
+    def rows(self) -> List[Bounds]:
         """The rows of the keys that have a counter, each with the least and the most of its weight, by falling low and then
         by rising key.
 
-        >>> Summary.of_csv(b"b\\na,5\\n").items()
+        >>> Summary.of_csv(b"b\\na,5\\n").rows()
         [Bounds(key=b'a', low=5, high=5), Bounds(key=b'b', low=1, high=1)]
         """
         return [*self._by_key().values()]
 
-    list = items
-
     def list_csv(self) -> bytes:
-        """The rows of `items`, as `heavy list` prints them.
+        """What `rows` has, as `heavy list` prints it.
 
         >>> Summary.of_csv(b"a,2\\nb,5\\n").list_csv()
         b'b,5,5\\na,2,2\\n'
@@ -573,7 +606,7 @@ class Summary(_File):
         return answer(calls.heavy_list, *lent(self.to_bytes()), guess=SMALL)
 
     def top(self, n: int) -> List[Bounds]:
-        """The first n rows of `items`.
+        """The first n of `rows`.
 
         >>> Summary.of_csv(b"b\\na,5\\n", text=True).top(1)
         [Bounds(key='a', low=5, high=5)]
@@ -581,15 +614,15 @@ class Summary(_File):
         count = integer("n", n)
         if count < 0:
             raise ValueError(f"n must be at least 0, not {count}")
-        return self.items()[:count]
+        return self.rows()[:count]
 
     def heavy_hitters(self, threshold: Threshold = None, *, certain: bool = True) -> List[Bounds]:
-        """The rows of `items` for keys above a share of the total weight, 1/(k + 1) if none is given. With `certain` each of
+        """Those of `rows` for keys above a share of the total weight, 1/(k + 1) if none is given. With `certain` each of
         them weighs more, since its low does, and others may too. Without, no other key weighs more, and some of these may
         weigh less: their high is above. `report` and `confirm` tell which.
 
         >>> summary = Summary.of_csv(b"a,5\\nb,2\\nc,1\\n", k=2, text=True)
-        >>> summary.items()
+        >>> summary.rows()
         [Bounds(key='a', low=4, high=5), Bounds(key='b', low=1, high=2)]
         >>> [row.key for row in summary.heavy_hitters("1/2")], [row.key for row in summary.heavy_hitters("5/8")]
         ([], [])
@@ -614,8 +647,8 @@ class Summary(_File):
         return p, q
 
     def to_frame(self) -> Any:
-        """The rows of `items` as a frame of pandas, with the columns key, low and high."""
-        return importlib.import_module("pandas").DataFrame(self.items(), columns=[*Bounds._fields])
+        """What `rows` has, as a frame of pandas with the columns key, low and high."""
+        return importlib.import_module("pandas").DataFrame(self.rows(), columns=[*Bounds._fields])
 
     def entries(self) -> List[Tuple[Any, int]]:
         """The keys that have a counter, by rising key, each with its counter.

@@ -5,7 +5,7 @@ import io
 import os
 import re
 from decimal import Decimal
-from typing import Any, BinaryIO, Callable, Iterator, NamedTuple, Union
+from typing import Any, BinaryIO, Callable, Iterator, NamedTuple, NoReturn, Union
 
 from . import _columns
 from ._library import BAD_RECORD, SMALL, HeavyError, answer, calls, lent
@@ -16,6 +16,7 @@ Named = Union[str, "os.PathLike[str]"]
 Records = Union[Given, Named]
 
 _FIRST, _CHUNK = 1 << 24, 1 << 20  # bytes of a file of records that are read at first, and then at a time
+_NO_NUMBER = "an Interval is no number, but the two bounds of a weight; take its low or its high"
 _ROW = re.compile(rb'(?:"((?:[^"]|"")*)"|([^",\r\n]*)),([0-9.]+)\n')
 
 
@@ -24,6 +25,34 @@ class Row(NamedTuple):
 
     key: Any
     weight: Any
+
+
+class Interval(NamedTuple):
+    """The least and the most that a key can weigh, ordered by the least and then by the most. It is no number: a sum or a
+    difference with it, as a Counter makes them, is a `TypeError` that says what to take.
+
+    >>> summary = Summary.of_csv(b"a,5\\nb,2\\n", k=1)
+    >>> summary["a"]
+    Interval(low=3, high=5)
+    >>> sum(summary.values())
+    Traceback (most recent call last):
+    TypeError: an Interval is no number, but the two bounds of a weight; take its low or its high
+    """
+
+    low: int
+    high: int
+
+    def __add__(self, other: object) -> NoReturn:
+        raise TypeError(_NO_NUMBER)
+
+    def __radd__(self, other: object) -> NoReturn:
+        raise TypeError(_NO_NUMBER)
+
+    def __sub__(self, other: object) -> NoReturn:
+        raise TypeError(_NO_NUMBER)
+
+    def __rsub__(self, other: object) -> NoReturn:
+        raise TypeError(_NO_NUMBER)
 
 
 class Bounds(NamedTuple):

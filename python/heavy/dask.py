@@ -37,7 +37,7 @@ def summary(
     where all went in so, or as `text` says.
 
     >>> import dask.bag
-    >>> summary(dask.bag.from_sequence("abcab", npartitions=3), k=5).items()
+    >>> summary(dask.bag.from_sequence("abcab", npartitions=3), k=5).rows()
     [Bounds(key='a', low=2, high=2), Bounds(key='b', low=2, high=2), Bounds(key='c', low=1, high=1)]
     """
     Summary(k=k)  # refuses a wrong k before anything is computed
