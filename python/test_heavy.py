@@ -578,7 +578,7 @@ class Misuses(unittest.TestCase):
                 self.assertEqual([row.key for row in heavy.report(RECORDS, summary.k, threshold)], wanted)
                 self.assertEqual([row.key for row in summary.confirm(RECORDS, threshold)], wanted)
                 self.assertEqual([row.key for row in summary.confirm_items({"a": 6, "b": 3, "c": 2}, None, threshold)], wanted)
-                self.assertEqual([row.key for row in summary.heavy_hitters(threshold)], wanted)
+                self.assertEqual([row.key for row in summary.heavy_hitters(threshold, certain=True)], wanted)
         for threshold, kind, text in (
             (0.1, ValueError, r"^the threshold 0.1 is not exactly 1/10; write '1/10' or Fraction\(1, 10\)$"),
             (0.05, ValueError, r"write '1/20' or Fraction\(1, 20\)$"), (1 / 3, ValueError, r"write '1/3' or"),
@@ -597,7 +597,7 @@ class Misuses(unittest.TestCase):
                 lambda: heavy.report(RECORDS, 2, threshold), lambda: heavy.report_csv(RECORDS, 2, threshold, 3),
                 lambda: self.summary.confirm(RECORDS, threshold), lambda: self.summary.confirm_csv(RECORDS, threshold),
                 lambda: self.summary.confirm_items("aaaaaabbbcc" and [*"aaaaaabbbcc"], None, threshold),
-                lambda: self.summary.heavy_hitters(threshold), lambda: self.summary.heavy_hitters(threshold, certain=False),
+                lambda: self.summary.heavy_hitters(threshold, certain=True), lambda: self.summary.heavy_hitters(threshold, certain=False),
             ):
                 with self.subTest(threshold):
                     self.refused(kind, text, call)
@@ -699,7 +699,7 @@ class Mappings(unittest.TestCase):
         for share, certain, possible in (
             (None, "a", "a"), ("4/11", "", "a"), ("5/11", "", "a"), ("6/11", "", ""), ("1/3", "a", "a"), ("1/1", "", ""),
         ):
-            self.assertEqual([row.key.decode() for row in summary.heavy_hitters(share)], [*certain], share)
+            self.assertEqual([row.key.decode() for row in summary.heavy_hitters(share, certain=True)], [*certain], share)
             self.assertEqual([row.key.decode() for row in summary.heavy_hitters(share, certain=False)], [*possible], share)
         draw = random.Random(11)
         for _ in range(200):
@@ -712,10 +712,31 @@ class Mappings(unittest.TestCase):
             summary.update_many([key for key, _ in items], [weight for _, weight in items])
             share = Fraction(draw.randint(1, k + 1), k + 1)
             heavier = {key for key, weight in exact.items() if weight > share * sum(exact.values())}
-            certain = {row.key for row in summary.heavy_hitters(share)}
+            certain = {row.key for row in summary.heavy_hitters(share, certain=True)}
             possible = {row.key for row in summary.heavy_hitters(share, certain=False)}
             self.assertTrue(certain <= heavier <= possible, (items, k, share))
-        self.assertRaisesRegex(TypeError, "^certain must be True or False", lambda: summary.heavy_hitters(certain=1))
+        for given in (1, 0, None, "yes"):
+            text = f"^certain must be True or False, not '{type(given).__name__}'$"
+            self.assertRaisesRegex(TypeError, text, lambda: summary.heavy_hitters(certain=given))
+        for words in ((), ("1/2",)):
+            self.assertRaisesRegex(TypeError, "missing 1 required .*'certain'$", summary.heavy_hitters, *words)
+        self.assertRaises(TypeError, summary.heavy_hitters, "1/2", True)
+
+    def test_truth_values(self) -> None:
+        """numpy's truth values are Python's."""
+        if not has("numpy"):
+            self.skipTest("numpy is not here")
+        import numpy
+
+        # of 11 in all a weighs 4 to 6: more than 4/11 only perhaps
+        summary = heavy.Summary.of_csv(RECORDS, 2)
+        for value, keys in ((True, []), (False, [b"a"])):
+            self.assertEqual([row.key for row in summary.heavy_hitters("4/11", certain=numpy.bool_(value))], keys)
+            layout = heavy.Layout(header=numpy.bool_(value), allow_zero=numpy.bool_(value))
+            self.assertEqual((layout, repr(layout)), (heavy.Layout(header=value, allow_zero=value), repr(heavy.Layout(header=value, allow_zero=value))))
+        self.assertEqual(heavy.report(b"h,w\na,5\nb,0\n", 1, layout=heavy.Layout(header=numpy.True_, allow_zero=numpy.True_)), [(b"a", 5)])
+        self.assertRaisesRegex(TypeError, "^a weight must be an integer, not 'bool_?'$", summary.update, "a", numpy.True_)
+        self.assertRaisesRegex(TypeError, r"^weights\[0\]: a weight must be an integer, not 'bool", summary.update_many, ["a"], [numpy.True_])
 
     def test_sums(self) -> None:
         days = [heavy.Summary.of_csv(b"a,%d\nb\n" % day, 5) for day in range(1, 4)]

@@ -12,7 +12,7 @@ import sys
 from collections.abc import Mapping, Set
 from typing import Any, Callable, Iterable, NamedTuple, TypeVar, Union
 
-from ._library import MAX_KEY, MAX_TOTAL, lent
+from ._library import MAX_KEY, MAX_TOTAL, is_flag, lent
 
 Key = Union[bytes, bytearray, memoryview, str]
 Keys = Union[Iterable[Key], Mapping[Any, int]]  # an iterable of keys, or a mapping from keys to weights
@@ -82,7 +82,7 @@ def _refused_key(size: int) -> ValueError:
 
 def integer_of_weight(weight: int) -> int:
     """A weight that an item can have."""
-    if isinstance(weight, bool) or not hasattr(weight, "__index__"):
+    if is_flag(weight) or not hasattr(weight, "__index__"):
         advice = "; take its low or its high" if hasattr(weight, "low") else ""
         raise TypeError(f"a weight must be an integer, not {type(weight).__name__!r}{advice}")
     number = operator.index(weight)

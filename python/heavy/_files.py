@@ -19,7 +19,7 @@ from ._columns import sum_of, text_of_bytes
 from ._growing import Growing
 from ._library import BAD_METHOD, BAD_RECORD, BAD_THRESHOLD, LARGE, MAX_KEY, MAX_TOTAL, MIXED_KINDS, NOT_COUNTERS, REFUSED
 from ._library import SMALL, TABLE, TOTAL_TOO_LARGE, USAGE, Entry, Fault, HashWords, HeavyError, InfoWords, Pair, answer, calls
-from ._library import checked, given, integer, joined, lent, random_words, word
+from ._library import checked, flag, given, integer, joined, lent, random_words, word
 from ._lock import WITHIN, Lock, changing, reading
 from ._options import PLAIN, Layout, Threshold, share_of
 from ._records import Bounds, Given, Interval, Named, Records, Row, bytes_of, is_file, parts_of, records_in, rows_of, with_records
@@ -616,21 +616,21 @@ class Summary(_File, Mapping[Any, Interval]):
             raise ValueError(f"n must be at least 0, not {count}")
         return self.rows()[:count]
 
-    def heavy_hitters(self, threshold: Threshold = None, *, certain: bool = True) -> List[Bounds]:
-        """Those of `rows` for keys above a share of the total weight, 1/(k + 1) if none is given. With `certain` each of
-        them weighs more, since its low does, and others may too. Without, no other key weighs more, and some of these may
-        weigh less: their high is above. `report` and `confirm` tell which.
+    def heavy_hitters(self, threshold: Threshold = None, *, certain: bool) -> List[Bounds]:
+        """Those of `rows` for keys that weigh more than a share of the total, 1/(k + 1) if none is given, as far as the summary
+        tells. `certain` has to be said. With certain=True each of them weighs more, since its low does; other keys may too, and
+        are left out. With certain=False all keys that weigh more are there, since their high does; some of them may weigh less.
+        `report` and `confirm` tell which do.
 
         >>> summary = Summary.of_csv(b"a,5\\nb,2\\nc,1\\n", k=2, text=True)
         >>> summary.rows()
         [Bounds(key='a', low=4, high=5), Bounds(key='b', low=1, high=2)]
-        >>> [row.key for row in summary.heavy_hitters("1/2")], [row.key for row in summary.heavy_hitters("5/8")]
-        ([], [])
+        >>> [row.key for row in summary.heavy_hitters("1/2", certain=True)]
+        []
         >>> [row.key for row in summary.heavy_hitters("1/2", certain=False)]
         ['a']
         """
-        if not isinstance(certain, bool):
-            raise TypeError(f"certain must be True or False, not {type(certain).__name__!r}")
+        certain = flag("certain", certain)
         saved = self.to_bytes()
         info = self._told(saved)
         p, q = self._share(threshold, info.k or 0)

@@ -163,6 +163,19 @@ def integer(name: str, number: Any) -> int:
     return operator.index(number)
 
 
+def is_flag(value: Any) -> bool:
+    """Whether this is a truth value, of Python or of numpy."""
+    kind = type(value)
+    return kind is bool or kind.__module__ == "numpy" and kind.__name__ in ("bool", "bool_")
+
+
+def flag(name: str, value: Any) -> bool:
+    """A truth value as Python has it."""
+    if not is_flag(value):
+        raise TypeError(f"{name} must be True or False, not {type(value).__name__!r}")
+    return bool(value)
+
+
 def word(name: str, number: Any) -> int:
     """An integer as 64 bits hold it, or where they don't the largest, which each option refuses."""
     held = integer(name, number)

@@ -9,7 +9,8 @@ from decimal import Decimal
 from fractions import Fraction
 from typing import Any, Optional, Sequence, Tuple, Union
 
-from ._library import BAD_DELIMITER, BAD_THRESHOLD, USAGE, HeavyError, LayoutWords, integer, joined, random_words, word
+from ._library import BAD_DELIMITER, BAD_THRESHOLD, USAGE, HeavyError, LayoutWords, flag, integer, joined
+from ._library import random_words, word
 
 Threshold = Union[None, str, Fraction, Decimal, float, Tuple[int, int]]
 Column = Union[int, str, bytes]
@@ -96,8 +97,7 @@ class Layout:
 
     def __post_init__(self) -> None:
         for name in ("header", "allow_zero"):
-            if not isinstance(getattr(self, name), bool):
-                raise TypeError(f"{name} must be True or False, not {type(getattr(self, name)).__name__!r}")
+            object.__setattr__(self, name, flag(name, getattr(self, name)))
         object.__setattr__(self, "decimals", integer("decimals", self.decimals))
         if not 0 <= self.decimals <= 9:
             raise ValueError(f"decimals must be 0 to 9, not {self.decimals}")
