@@ -407,6 +407,122 @@ class Growing(unittest.TestCase):
         return summary
 
 
+class Batches(unittest.TestCase):
+    """Items of an iterator, which are added in batches."""
+
+    def in_batches(self, items: int, size: int = 1 << 22) -> object:
+        return mock.patch.multiple(heavy._columns, _BATCH=items, _BATCH_BYTES=size, _BLOCK=max(items // 2, 1))
+
+    def test_all_are_added(self) -> None:
+        """Iterators give the counters that their items have one by one, whatever the batches, and whatever gives the weights."""
+        draw = random.Random(94)
+        for many in (0, 1, 2, 3, 4, 5, 8, 9, 40, 41):
+            items = [(f"k{int(draw.expovariate(0.2))}", draw.randint(1, 9)) for _ in range(many)]
+            keys, weights = [key for key, _ in items], [weight for _, weight in items]
+            for size in (1, 2, 4, 8):
+                for given in (iter(weights), weights, array.array("i", weights), (weight for weight in weights)):
+                    with self.subTest(many=many, size=size), self.in_batches(size):
+                        summary, table = heavy.Summary(k=5), heavy.Table(width=64)
+                        summary.update_many((key for key in keys), given)
+                        self.assertEqual((summary.entries(), summary.total), (counted_by_hand(items, 5), sum(weights)))
+                        table.update_many(map(str.encode, keys), weights)
+                        self.assertEqual(table.total, sum(weights))
+                        summary.update_many(iter(keys))
+                        self.assertEqual(summary.total, sum(weights) + many)
+
+    def test_calls_of_the_library(self) -> None:
+        """The library is called once a batch: at so many items, or so many bytes, and once for what is known at once."""
+        texts, call, sizes = [f"{number:04}" for number in range(20)], heavy._library.calls.heavy_add_by, []
+
+        def counted(*words: object) -> int:
+            sizes.append(words[5])
+            return call(*words)
+
+        with mock.patch.object(heavy._library.calls, "heavy_add_by", counted):
+            for items, size, given, wanted in (
+                (8, 1 << 22, iter(texts), [8, 8, 4]), (8, 16, iter(texts), [5, 5, 5, 5]), (8, 1 << 22, texts, [20]),
+                (20, 1 << 22, iter(texts), [20]), (8, 1 << 22, dict.fromkeys(texts, 1), [20]), (8, 1 << 22, {*texts}, [20]),
+            ):
+                sizes.clear()
+                with self.in_batches(items, size):
+                    heavy.Summary().update_many(given)
+                self.assertEqual(sizes, wanted)
+
+    def test_little_is_held(self) -> None:
+        """No more keys are held than those of two batches, however many come."""
+        held = [0, 0]
+
+        class Text(str):
+            def __init__(self, text: str) -> None:
+                held[0] += 1
+                held[1] = max(held)
+
+            def __del__(self) -> None:
+                held[0] -= 1
+
+        summary = heavy.Summary(k=3)
+        with self.in_batches(10):
+            summary.update_many(Text(f"k{number % 7}") for number in range(5000))
+        self.assertEqual((summary.total, held[0]), (5000, 0))
+        self.assertLessEqual(held[1], 21)
+
+    def test_refusals(self) -> None:
+        """A batch is added whole or not at all, and what is raised says how many items were added before."""
+        def until(many: int, error: BaseException) -> object:
+            def keys() -> object:
+                for number in range(many):
+                    yield f"k{number % 3}"
+                raise error
+
+            return keys
+
+        largest = 2**63 - 1
+        for keys, weights, kind, text, added in (
+            (["a"] * 9 + [""], None, ValueError, r"^keys\[9\]: a key must have 1 to 4096 bytes, not 0$", 8),
+            (["a"] * 5 + [5], None, TypeError, r"^keys\[5\]: .*'int'; of a number", 4),
+            (["a"] * 3 + [5], None, TypeError, r"^keys\[3\]: .*'int'; of a number", 0),
+            (["a"] * 12, [1] * 11 + [0], ValueError, r"^weights\[11\]: .* not 0$", 8),
+            (["a"] * 12, [1] * 6 + ["x"] * 6, TypeError, r"^weights\[6\]: .*'str'$", 4),
+            (["a"] * 12, [1] * 11, ValueError, "^there are fewer weights than keys, which are 12$", 8),
+            (["a"] * 12, [1] * 6, ValueError, "^there are fewer weights than keys, which are 8 or more$", 4),
+            (["a"] * 12, itertools.repeat(1), ValueError, "^there are more weights than keys, which are 12$", 8),
+            (["a"] * 10, [1] * 11, ValueError, "^there are more weights than keys, which are 10$", 8),
+            (["a"] * 4, [1] * 5, ValueError, "^there are more weights than keys, which are 4$", 0),
+            ([], [1], ValueError, "^there are more weights than keys, which are 0$", 0),
+            (["a"] * 7, [1] * 6 + [largest - 11], heavy.HeavyError, "^record 7: total too large$", 4),
+            (until(11, OSError("unplugged")), None, OSError, "^unplugged$", 8), (until(3, KeyboardInterrupt("stop")), None, KeyboardInterrupt, "stop", 0),
+            (["a"], {"a": 1}, TypeError, "^weights must be .* mapping", 0), (["a"], 5, TypeError, "^weights must be", 0),
+        ):
+            for file in (heavy.Summary.of_csv(RECORDS, 2), updated(heavy.Table(), ("z", 11))):
+                with self.subTest(text), self.in_batches(4):
+                    with self.assertRaisesRegex(kind, text) as caught:
+                        file.update_many(keys() if callable(keys) else iter(keys), weights)
+                    self.assertEqual((file.total, caught.exception.added), (11 + added, added))
+        summary = heavy.Summary.of_csv(RECORDS, 2)
+        for keys, added, note in (
+            (["a"] * 9 + [""], 8, "the first 8 items of this call are added, and no other"), ([""], 0, "no item of this call is added"),
+        ):
+            with self.in_batches(4), self.assertRaises(ValueError) as caught:
+                summary.update_many(iter(keys))
+            self.assertEqual(caught.exception.added, added)
+            self.assertEqual(getattr(caught.exception, "__notes__", [str(caught.exception).split("; ")[-1]]), [note])
+        with self.in_batches(4), self.assertRaises(heavy.HeavyError) as caught:
+            summary.update_many(iter("aaaaaab"), [1] * 6 + [largest])
+        again = pickle.loads(pickle.dumps(caught.exception))
+        self.assertEqual((again.added, again.number, heavy.HeavyError.added), (4, 7, None))
+
+    def test_without_notes(self) -> None:
+        """Where Python has no notes the text says what was added."""
+
+        class Plain(ValueError):
+            add_note = None
+
+        refused = ValueError("keys[9]: no")
+        with mock.patch.object(heavy._library, "hasattr", lambda given, name: False, create=True):
+            heavy._library.say_added(refused, 5)
+        self.assertEqual((str(refused), refused.added), ("keys[9]: no; the first 5 items of this call are added, and no other", 5))
+
+
 class Frame:
     """A frame of a library that is not here, as Arrow's tables are."""
 

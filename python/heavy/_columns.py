@@ -8,9 +8,10 @@ import decimal
 import itertools
 import numbers
 import operator
+import re
 import sys
 from collections.abc import Mapping, Set
-from typing import Any, Callable, Iterable, NamedTuple, TypeVar, Union
+from typing import Any, Callable, Iterable, Iterator, NamedTuple, TypeVar, Union
 
 from ._library import MAX_KEY, MAX_TOTAL, is_flag, lent
 
@@ -435,11 +436,8 @@ def _words_of(values: Any) -> Any:
     return own.view("u8") if own.dtype in ("=i8", "=u8") else own.astype("=u8")
 
 
-def numbers_of(weights: Any, count: int, names: list[Any] | None = None) -> Any:
-    """As many weights as there are keys, all of them checked, or None for 1 each. Weights may go on for ever: one too many
-    is enough to refuse them."""
-    if weights is None:
-        return None
+def _weights_in(weights: Any) -> Any:
+    """Weights as an iterable of them, where they are one."""
     frame = columns_named(weights)
     if frame is not None:
         raise TypeError(f"weights must be an iterable of integers, not a {type(weights).__name__}; {_one_of(frame)}")
@@ -448,6 +446,15 @@ def numbers_of(weights: Any, count: int, names: list[Any] | None = None) -> Any:
     values = _values_of(weights)
     if isinstance(values, (str, bytes, bytearray, Set)) or not _is_iterable(values):
         raise TypeError(f"weights must be an iterable of integers, not {type(values).__name__!r}")
+    return values
+
+
+def numbers_of(weights: Any, count: int, names: list[Any] | None = None) -> Any:
+    """As many weights as there are keys, all of them checked, or None for 1 each. Weights may go on for ever: one too many
+    is enough to refuse them."""
+    if weights is None:
+        return None
+    values = _weights_in(weights)
     if _is_integers(values):
         least, most = _least_and_most(values) if len(values) else (0, 0)
         if len(values) == count and 1 <= least <= most <= MAX_TOTAL:
@@ -485,6 +492,58 @@ def items_of(keys: Any, weights: Any, room: int = 0) -> Items:
         columns = columns_of(keys)
         numbers = numbers_of(weights, len(columns.ends))
     return Items(columns, numbers, numbers, len(columns.ends))
+
+
+_BATCH, _BATCH_BYTES, _BLOCK = 1 << 16, 1 << 22, 1 << 12  # the items and the bytes of a batch of keys, and how many are read at once
+
+
+def comes_by_batches(keys: Any) -> bool:
+    """Whether these are keys of which nothing tells how many they are, as those of an iterator."""
+    whole = ("__len__", "__arrow_c_array__", "__arrow_c_stream__", "to_pylist")
+    if not hasattr(keys, "__iter__") or columns_named(keys) is not None or _is_pandas(keys):
+        return False
+    return not any(hasattr(keys, name) for name in whole)
+
+
+def _next_batch(first: list[Any], keys: Iterator[Any]) -> list[Any]:
+    """The first key and the next ones, of which fewer are read where they are long."""
+    batch, block, size = [], first, 0
+    while block:
+        batch += block
+        size += sum(len(key) for key in block if hasattr(key, "__len__"))
+        wanted = min(_BLOCK, _BATCH - len(batch)) if size < _BATCH_BYTES else 0
+        block = [*itertools.islice(keys, wanted)]
+    return batch
+
+
+def batches_of(keys: Iterable[Any], weights: Any) -> Iterator[Items]:
+    """Keys and weights in batches, in order, each of them checked before it comes. The last one comes once no weight is left."""
+    coming, numbers, before = iter(keys), None if weights is None else iter(_weights_in(weights)), 0
+    first = [*itertools.islice(coming, 1)]
+    while True:
+        batch = _next_batch(first, coming)
+        first = [*itertools.islice(coming, 1)]
+        count = len(batch)
+        given = None if numbers is None else [*itertools.islice(numbers, count if first else count + 1)]
+        try:
+            columns = columns_of(batch)
+            if given is not None and len(given) != count:
+                told = "more" if len(given) > count else "fewer"
+                raise ValueError(f"there are {told} weights than keys, which are {before + count}{' or more' if first else ''}")
+            checked = numbers_of(given, count)
+        except (TypeError, ValueError) as refused:
+            raise _among_all(refused, before) from None
+        del batch, given
+        yield Items(columns, checked, checked, count)
+        before += count
+        if not first:
+            return
+
+
+def _among_all(refused: TypeError | ValueError, before: int) -> Exception:
+    """The refusal of a batch, with the index that the key or the weight has among all."""
+    told = re.sub(r"^(keys|weights)\[(\d+)\]", lambda found: f"{found[1]}[{int(found[2]) + before}]", str(refused))
+    return type(refused)(told)
 
 
 def _together(keys: Any, weights: Any, room: int) -> Items | None:

@@ -14,12 +14,13 @@ from concurrent.futures import ThreadPoolExecutor
 from pathlib import Path
 from typing import Any, Callable, Dict, Iterable, Iterator, List, NamedTuple, Optional, Tuple, TypeVar, overload
 
-from ._columns import ANY, Columns, Items, Key, Keys, bytes_of_key, columns_of, integer_of_weight, items_of, lent_items
-from ._columns import sum_of, text_of_bytes
+from ._columns import ANY, Columns, Items, Key, Keys, batches_of, bytes_of_key, columns_of, comes_by_batches, integer_of_weight
+from ._columns import items_of, lent_items, sum_of, text_of_bytes
 from ._growing import Growing
 from ._library import BAD_METHOD, BAD_RECORD, BAD_THRESHOLD, LARGE, MAX_KEY, MAX_TOTAL, MIXED_KINDS, NOT_COUNTERS, REFUSED
 from ._library import SMALL, TABLE, TOTAL_TOO_LARGE, USAGE, Entry, Fault, HashWords, HeavyError, InfoWords, Pair, answer, calls
-from ._library import checked, flag, given, integer, joined, lent, random_words, word
+from ._library import checked, flag, given, integer, joined, lent, random_words, say_added
+from ._library import word
 from ._lock import WITHIN, Lock, changing, reading
 from ._options import PLAIN, Layout, Threshold, share_of
 from ._records import Bounds, Given, Interval, Named, Records, Row, bytes_of, is_file, parts_of, records_in, rows_of, with_records
@@ -243,6 +244,11 @@ class _File:
         weights, a `ValueError`, each with the index in keys or weights. A total above 2^63 - 1 is a `HeavyError` with the
         item's number from 1 on. After a refusal none of these items is added.
 
+        Keys of which nothing tells how many they are, as those of an iterator, may go on for any length, with little memory.
+        They are added in batches of some ten thousands, each whole or not at all, and items of other threads may come between
+        two. Where something is raised, `added` of it is the number of items of this call that are added, which its note says:
+        those of all batches before.
+
         >>> summary = Summary()
         >>> summary.update_many(["a", b"b"], [5, 3])
         >>> summary.update_many({"a": 2, "c": 1})
@@ -254,8 +260,26 @@ class _File:
         """
         if isinstance(keys, _File):
             raise TypeError(f"keys is a {type(keys).__name__}, which is merged, as by +=")
-        if not self._add(items_of(keys, weights, self._room() if hasattr(keys, "to_numpy") else 0), ordered=True):
+        if comes_by_batches(keys):
+            self._add_batches(batches_of(keys, weights))
+        elif not self._add(items_of(keys, weights, self._room() if hasattr(keys, "to_numpy") else 0), ordered=True):
             self._add(items_of(keys, weights))
+
+    def _add_batches(self, batches: Iterator[Items]) -> None:
+        """Adds batches of items. What is raised says how many items were added."""
+        added = 0
+        try:
+            for items in batches:
+                self._add(items)
+                added += items.many
+        except HeavyError as refused:
+            status, kind, cause, number = refused.numbers
+            told = HeavyError(status, kind, cause, number + (added if kind == BAD_RECORD else 0))
+            say_added(told, added)
+            raise told from None
+        except BaseException as raised:
+            say_added(raised, added)
+            raise
 
     def _room(self) -> int:
         """How many different keys may come in any order for the same bytes."""

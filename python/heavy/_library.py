@@ -1,6 +1,7 @@
 """The calls of libheavy.so.1, why they refuse, and the rooms that their answers are written to."""
 from __future__ import annotations
 
+import contextlib
 import ctypes
 import operator
 import os
@@ -23,10 +24,12 @@ class HeavyError(ValueError):
 
     Its text is the program's, and `status` the program's exit status: 2 an option, 3 a record, a file or a key, 4 memory.
     `number` is that of the record, the file or the key, from 1 on, or 0. `part` is the path, or else the number from 0 on,
-    of the part of a collection of Dask whose records are refused, or None.
+    of the part of a collection of Dask whose records are refused, or None. `added` is how many items of an `update_many` by
+    batches are added all the same, or None.
     """
 
     part: Any = None
+    added: Any = None
 
     def __init__(self, status: int, kind: int, cause: int, number: int) -> None:
         self.status = status
@@ -36,6 +39,18 @@ class HeavyError(ValueError):
 
     def __reduce__(self) -> tuple[type[HeavyError], tuple[int, int, int, int], dict[str, Any]]:
         return HeavyError, self.numbers, self.__dict__
+
+
+def say_added(refused: BaseException, added: int) -> None:
+    """Has what was raised within a call say how many of the call's items are added: as `added`, and in a note, or in the text
+    where this Python has no notes."""
+    with contextlib.suppress(AttributeError):
+        setattr(refused, "added", added)
+    told = f"the first {added} items of this call are added, and no other" if added else "no item of this call is added"
+    if hasattr(refused, "add_note"):
+        refused.add_note(told)
+    elif isinstance(refused, (TypeError, ValueError)):
+        refused.args = (f"{refused}; {told}", *refused.args[1:])
 
 
 class Fault(ctypes.Structure):
