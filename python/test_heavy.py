@@ -560,6 +560,15 @@ def integers() -> list[type]:
     return kinds
 
 
+def reals() -> list[type]:
+    """The kinds of floats that are here: of numpy's the one of 32 bits stands first."""
+    if not has("numpy"):
+        return [float]
+    import numpy
+
+    return [numpy.float32, float, numpy.float64, numpy.float16, numpy.longdouble]
+
+
 class Misuses(unittest.TestCase):
     """What a caller gets wrong: nothing of it is dropped in silence, and each message says what to do."""
 
@@ -687,7 +696,9 @@ class Misuses(unittest.TestCase):
         for threshold, wanted in (
             ((6, 11), []), ("6/11", []), (Fraction(6, 11), []), ((1, 2), [b"a"]), ("1/2", [b"a"]), (Fraction(1, 2), [b"a"]),
             (0.5, [b"a"]), (Decimal("0.5"), [b"a"]), (1, []), (1.0, []), ("2/4", [b"a"]), ("3/11", [b"a"]), (None, [b"a"]),
-            ("1/4", [b"a", b"b"]), (0.25, [b"a", b"b"]), (Decimal("0.25"), [b"a", b"b"]),
+            ("1/4", [b"a", b"b"]), (0.25, [b"a", b"b"]), (Decimal("0.25"), [b"a", b"b"]), ("0.25", [b"a", b"b"]), ("25%", [b"a", b"b"]),
+            (".5", [b"a"]), ("0.50", [b"a"]), ("27.2%", [b"a", b"b"]), ("27.3%", [b"a"]), ("100%", []), ("1", []), ("1.", []),
+            *((kind(0.25), [b"a", b"b"]) for kind in reals()), *((kind(1), []) for kind in integers() if kind is not Index),
         ):
             summary = heavy.Summary.of_csv(RECORDS, 3 if threshold is not None else 2)
             with self.subTest(threshold):
@@ -699,9 +710,12 @@ class Misuses(unittest.TestCase):
             (0.1, ValueError, r"^the threshold 0.1 is not exactly 1/10; write '1/10' or Fraction\(1, 10\)$"),
             (0.05, ValueError, r"write '1/20' or Fraction\(1, 20\)$"), (1 / 3, ValueError, r"write '1/3' or"),
             (2**-40 * 1.1, ValueError, "no fraction with a small denominator; write it as 'P/Q'$"),
-            ("0.1", ValueError, "^a threshold is a text 'P/Q', not '0.1'; write '1/10'$"),
-            ("5%", ValueError, "^a threshold is a text 'P/Q', not '5%'; write '1/20'$"), ("a tenth", ValueError, "'P/Q'"),
-            ("", ValueError, "'P/Q'"), ("1/0", heavy.HeavyError, "^threshold must be P/Q"), (0, heavy.HeavyError, "^threshold must"),
+            ("0.1", heavy.HeavyError, "^threshold must be P/Q"), ("5%", heavy.HeavyError, "^threshold must be P/Q"),
+            *((text, ValueError, rf"^a threshold is a text as '1/4', '0.25' or '25%', not {re.escape(repr(text))}$") for text in (
+                "a tenth", "", "%", ".", "1/2%", "-0.5", "0,5", "1e-1", " 0.5", "0.5 ", "1 / 2", "0.5%%", "nan", "1_0%", "٢٥%")),
+            *((kind(0.1), ValueError, r"is not exactly 1/10; write '1/10' or Fraction\(1, 10\)$") for kind in reals()[:2]),
+            *((kind(1 / 3), ValueError, "write '1/3' or") for kind in reals()[:2]), *((kind("nan"), ValueError, "share") for kind in reals()),
+            ("1/0", heavy.HeavyError, "^threshold must be P/Q"), (0, heavy.HeavyError, "^threshold must"),
             (float("nan"), ValueError, "^a threshold is a share, not nan$"), (float("inf"), ValueError, "share"),
             (True, TypeError, "'bool'"), ([1, 2], TypeError, "'list'"), (b"1/2", TypeError, "'bytes'"), ((1,), ValueError, "pair"),
             ((1, 2.0), TypeError, "^q must be an integer, not 'float'$"), ((-1, 2), heavy.HeavyError, "^threshold must be P/Q"),

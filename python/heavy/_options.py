@@ -3,16 +3,17 @@ from __future__ import annotations
 
 import ctypes
 import functools
+import numbers
 import re
 from dataclasses import dataclass, fields
 from decimal import Decimal
 from fractions import Fraction
-from typing import Any, Optional, Sequence, Tuple, Union
+from typing import Any, Optional, Sequence, SupportsFloat, Tuple, Union
 
-from ._library import BAD_DELIMITER, BAD_THRESHOLD, USAGE, HeavyError, LayoutWords, flag, integer, joined
+from ._library import BAD_DELIMITER, BAD_THRESHOLD, USAGE, HeavyError, LayoutWords, flag, integer, is_flag, joined
 from ._library import random_words, word
 
-Threshold = Union[None, str, Fraction, Decimal, float, Tuple[int, int]]
+Threshold = Union[None, str, Fraction, Decimal, float, SupportsFloat, Tuple[int, int]]
 Column = Union[int, str, bytes]
 
 _MARK = b"\xef\xbb\xbf"
@@ -22,8 +23,8 @@ _MOST = 2**32  # the largest q of a share p/q
 def share_of(threshold: Threshold) -> tuple[int, int]:
     """The share p/q that a threshold is, or 0 and 0 for none.
 
-    >>> share_of("1/10"), share_of(0.25), share_of(None)
-    ((1, 10), (1, 4), (0, 0))
+    >>> share_of("1/10"), share_of("0.1"), share_of("10%"), share_of(0.25), share_of(None)
+    ((1, 10), (1, 10), (1, 10), (1, 4), (0, 0))
     >>> share_of(0.1)
     Traceback (most recent call last):
     ValueError: the threshold 0.1 is not exactly 1/10; write '1/10' or Fraction(1, 10)
@@ -45,31 +46,40 @@ def share_of(threshold: Threshold) -> tuple[int, int]:
 
 
 def _share_of_text(text: str) -> tuple[int, int]:
-    """The numbers of a text P/Q, as the program takes it."""
+    """The numbers of a text P/Q, or of one with a point or a percent sign, which is exact too."""
     if re.fullmatch(r"[0-9]+/[0-9]+", text):
         p, q = text.split("/")
         return int(p), int(q)
-    try:
-        meant = Fraction(text[:-1]) / 100 if text.endswith("%") else Fraction(text)
-    except ValueError:
-        raise ValueError(f"a threshold is a text 'P/Q', not {text!r}") from None
-    raise ValueError(f"a threshold is a text 'P/Q', not {text!r}; write '{meant}'")
+    if not re.fullmatch(r"([0-9]+\.?[0-9]*|\.[0-9]+)%?", text):
+        raise ValueError(f"a threshold is a text as '1/4', '0.25' or '25%', not {text!r}")
+    share = Fraction(text[:-1]) / 100 if text.endswith("%") else Fraction(text)
+    return share.numerator, share.denominator
 
 
 def _fraction_of(threshold: Any) -> Fraction:
     """The fraction that a number is. A float that is none with a small denominator is refused."""
-    if isinstance(threshold, bool) or not isinstance(threshold, (int, float, Fraction, Decimal)):
+    if is_flag(threshold) or not isinstance(threshold, (numbers.Real, Decimal)):
         raise TypeError(f"a threshold is a text 'P/Q', a pair, a Fraction or a float, not {type(threshold).__name__!r}")
     try:
-        share = Fraction(threshold)
+        if isinstance(threshold, Decimal):
+            return Fraction(threshold)
+        if isinstance(threshold, numbers.Rational):
+            return Fraction(int(threshold.numerator), int(threshold.denominator))
+        rounded = float(threshold)
+        share = Fraction(rounded)
     except (ValueError, OverflowError):
         raise ValueError(f"a threshold is a share, not {threshold!r}") from None
-    if isinstance(threshold, float) and share.denominator > _MOST:
-        meant = share.limit_denominator(10**6)
-        if float(meant) == threshold:
-            raise ValueError(f"the threshold {threshold} is not exactly {meant}; write '{meant}' or {meant!r}")
+    meant = share.limit_denominator(10**6)
+    if meant != share and _is_rounded(meant, threshold):
+        raise ValueError(f"the threshold {threshold} is not exactly {meant}; write '{meant}' or {meant!r}")
+    if share.denominator > _MOST or rounded != threshold:
         raise ValueError(f"the threshold {threshold} is no fraction with a small denominator; write it as 'P/Q'")
     return share
+
+
+def _is_rounded(meant: Fraction, threshold: Any) -> bool:
+    """Whether a fraction, as a number of the threshold's kind, is the threshold."""
+    return bool(type(threshold)(float(meant)) == threshold)
 
 
 @dataclass(frozen=True, repr=False)
