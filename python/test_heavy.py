@@ -2164,12 +2164,13 @@ class Layouts(unittest.TestCase):
                     with self.assertRaises(heavy.HeavyError) as caught:
                         call()
                     told = (f"heavy: {caught.exception}\n".encode(), caught.exception.status)
-                    self.assertEqual(told, (ran.stderr.splitlines(keepends=True)[0], ran.returncode))
+                    line = ran.stderr.splitlines(keepends=True)[0].replace(b"--header", b"header=True")
+                    self.assertEqual(told, (line, ran.returncode))
             self.assertEqual(summary, heavy.Summary(k=2))
 
     def test_options(self) -> None:
         for options, kind, text in (
-            ({"delimiter": "ab"}, heavy.HeavyError, "^delimiter must be one byte"), ({"delimiter": "é"}, heavy.HeavyError, "^delimiter"),
+            ({"delimiter": "ab"}, heavy.HeavyError, "^delimiter must be one byte, and no quote, CR or LF$"), ({"delimiter": "é"}, heavy.HeavyError, "^delimiter"),
             ({"delimiter": '"'}, heavy.HeavyError, "^delimiter"), ({"delimiter": "\n"}, heavy.HeavyError, "^delimiter"),
             ({"delimiter": ""}, heavy.HeavyError, "^delimiter"), ({"delimiter": 44}, TypeError, "^delimiter must be a character, not 'int'"),
             ({"header": "host"}, TypeError, "^header must be True or False, not 'str'"), ({"header": 0}, TypeError, "^header"),
@@ -2190,6 +2191,104 @@ class Layouts(unittest.TestCase):
         drawn = [tuple(layout._words()[0]._obj.hash) for layout in [heavy.Layout()] * 20]
         self.assertEqual((len(set(drawn)), (0, 0) in drawn), (20, False))
         self.assertEqual(len({heavy.report_csv(OTHERS, 9) for _ in range(20)}), 1)
+
+
+class Places(unittest.TestCase):
+    """Where a bad record stands, and what is wrong with it, as numbers and names."""
+
+    # texts, layouts, the number of the bad record, its line, and what is wrong with it
+    BAD = [
+        (b"a,5\nb,0\n", {}, 2, 2, "RECORD_ZERO_WEIGHT"), (b"a,5\n\n\nb,x\n", {}, 2, 4, "RECORD_BAD_WEIGHT"),
+        (b"a\r\n\r\nb\rc,1,2\n", {}, 3, 4, "RECORD_FIELD_COUNT"), (b'"a\n\nb",5\n"c\rd"\n,5\n', {}, 3, 6, "RECORD_EMPTY_KEY"),
+        (b"\xef\xbb\xbfa,0\n", {}, 1, 1, "RECORD_ZERO_WEIGHT"), (b"h,w\n\na,1\nb,0\n", {"header": True}, 2, 4, "RECORD_ZERO_WEIGHT"),
+        (b'"h\nh";w\na;1\nb;0\n', {"header": True, "delimiter": ";"}, 2, 4, "RECORD_ZERO_WEIGHT"),
+        (b"\n\nh,w\na,1\nb,1\nc,1\nd,0\n", {"header": True}, 4, 7, "RECORD_ZERO_WEIGHT"),
+        (b"a\n" * 40 + b"x" * 4097 + b"\n", {}, 41, 41, "RECORD_KEY_TOO_LONG"),
+        (b"a,9223372036854775807\n\nb\n", {}, 2, 3, "RECORD_TOTAL_TOO_LARGE"),
+    ]
+
+    def test_records(self) -> None:
+        """Each call that reads records tells the path and the line, whatever parts they are read in."""
+        with tempfile.TemporaryDirectory() as room:
+            path = Path(room, "records")
+            for text, options, number, line, cause in self.BAD:
+                path.write_bytes(text)
+                layout = heavy.Layout(**options)
+                for given, named in ((text, None), (io.BytesIO(text), None), (str(path), str(path)), (path, path)):
+                    for call in (
+                        lambda: heavy.Summary.of_csv(given, layout=layout), lambda: heavy.Table.of_csv(given, layout=layout),
+                        lambda: heavy.Summary(k=5).update_csv(given, layout=layout), lambda: heavy.report(given, layout=layout),
+                        lambda: heavy.report(given, workers=3, layout=layout), lambda: heavy.Summary(k=5).condense(given, layout=layout),
+                        lambda: heavy.Summary(k=5).confirm(given, layout=layout),
+                    ):
+                        for size in (2, 1 << 20):
+                            given.seek(0) if isinstance(given, io.BytesIO) else None
+                            with self.subTest(text=text, size=size), in_parts(size), self.assertRaises(heavy.HeavyError) as caught:
+                                call()
+                            again = pickle.loads(pickle.dumps(caught.exception))
+                            for found in (caught.exception, again):
+                                self.assertEqual((found.number, found.line, found.path), (number, line, named), text)
+                                self.assertEqual((found.kind, found.cause), (heavy.Kind.BAD_RECORD, heavy.Cause[cause]))
+                            told = f"line {line}" if named is None else f"{named}, line {line}"
+                            self.assertEqual(getattr(caught.exception, "__notes__", [told]), [told])
+
+    def test_lines_of_the_program(self) -> None:
+        """The line is that which the program tells of the same records."""
+        draw = random.Random(7)
+        with tempfile.TemporaryDirectory() as room:
+            path = Path(room, "records")
+            for size in range(1, 41):
+                text = b"".join(draw.choice([b"a", b"b,2", b'"c\n"', b'"d\r\n,",3', b""]) + draw.choice([b"\n", b"\r\n", b"\r"]) for _ in range(size))
+                path.write_bytes(text + b"e,0\n" + text)
+                ran = program("summarise", "--explain", str(path))
+                with in_parts(size), self.assertRaises(heavy.HeavyError) as caught:
+                    heavy.Summary.of_csv(path)
+                self.assertIn(f", line {caught.exception.line}, ".encode(), ran.stderr)
+
+    def test_other_faults(self) -> None:
+        """What has no line has none, and a missing column has the path."""
+        with tempfile.TemporaryDirectory() as room:
+            path = Path(room, "records")
+            path.write_bytes(b"h,w\na,1\n")
+            layout = heavy.Layout(header=True, key="z")
+            for call in (lambda: heavy.Summary.of_csv(path, layout=layout), lambda: heavy.report(path, layout=layout)):
+                with self.assertRaises(heavy.HeavyError) as caught:
+                    call()
+                found = caught.exception
+                self.assertEqual((found.kind, found.cause, found.path, found.line), (heavy.Kind.NO_COLUMN, None, path, None))
+        summary, table = heavy.Summary.of_csv(RECORDS, 2), heavy.Table()
+        for call, kind, cause in (
+            (lambda: heavy.Summary(k=0), "BAD_K", None), (lambda: heavy.Table(depth=0), "BAD_DEPTH", None),
+            (lambda: heavy.Table(width=0), "BAD_WIDTH", None), (lambda: heavy.Summary.of_csv(b"", method="x"), "BAD_METHOD", None),
+            (lambda: heavy.Summary(b"HHS").k, "BAD_FILE", "FILE_TRUNCATED"), (lambda: heavy.Summary(b"x" * 99).k, "BAD_FILE", "FILE_BAD_MAGIC"),
+            (lambda: summary + heavy.Summary(k=3), "CANNOT_MERGE", "MERGE_DIFFERENT_K"),
+            (lambda: table + heavy.Table(width=8), "CANNOT_MERGE", "MERGE_DIFFERENT_WIDTH"),
+            (lambda: table + heavy.Table(seed=1), "CANNOT_MERGE", "MERGE_DIFFERENT_FAMILY"),
+            (lambda: heavy.merge(summary, table), "MIXED_KINDS", None), (lambda: heavy.Summary(table.to_bytes()).k, "NOT_COUNTERS", None),
+            (lambda: summary.confirm(b"a\n"), "TOTAL_DIFFERS", None), (lambda: summary.confirm(b"b,11\n"), "WEIGHT_OUTSIDE", None),
+            (lambda: summary.confirm(RECORDS, "1/9"), "BAD_THRESHOLD", None), (lambda: heavy.Layout(delimiter=""), "BAD_DELIMITER", None),
+            (lambda: heavy.report(b"", layout=heavy.Layout(key="a")), "BAD_COLUMN", None),
+            (lambda: summary.update("a", 2**63 - 1), "BAD_RECORD", "RECORD_TOTAL_TOO_LARGE"),
+        ):
+            with self.subTest(kind), self.assertRaises(heavy.HeavyError) as caught:
+                call()
+            found = caught.exception
+            self.assertEqual((found.kind, found.cause), (heavy.Kind[kind], cause and heavy.Cause[cause]))
+            self.assertEqual((found.path, found.line), (None, None))
+
+    def test_numbers_of_the_header(self) -> None:
+        """Kinds and causes are those of the library's header."""
+        header = Path(__file__).resolve().parent.parent / "include" / "heavy.h"
+        if not header.exists():
+            self.skipTest("the header is not here")
+        numbers = {name: int(number) for name, number in re.findall(r"^#define HEAVY_(\w+) (\d+)u", header.read_text(), re.M)}
+        groups = {"RECORD": "BAD_RECORD", "FILE": "BAD_FILE", "MERGE": "CANNOT_MERGE", "KEY": "BAD_KEY"}
+        causes = {name: (numbers[groups[name.split("_")[0]]], number) for name, number in numbers.items() if name.split("_")[0] in groups}
+        self.assertEqual({cause.name: cause.value for cause in heavy.Cause}, causes)
+        others = {"VERSION", "DONE", "DEVICE", "USAGE", "REFUSED", "MEMORY", "TOO_SMALL", "MISRA_GRIES", "SPACE_SAVING", "SUMMARY", "TABLE", "MAX_KEY", "MAX_K"}
+        self.assertEqual({kind.name: kind.value for kind in heavy.Kind}, {
+            name: number for name, number in numbers.items() if name not in causes and name not in others
+        })
 
 
 class Same(unittest.TestCase):

@@ -25,14 +25,17 @@ import re as _re
 from pathlib import Path as _Path
 
 from . import dask, pandas
+from ._faults import Cause, Kind
 from ._files import Info, Summary, Table, merge, report, report_csv
 from ._library import HeavyError
 from ._options import Layout
 from ._records import Bounds, Interval, Row
 
-__all__ = ["Bounds", "HeavyError", "Info", "Interval", "Layout", "Row", "Summary", "Table", "merge", "report", "report_csv"]
+__all__ = [
+    "Bounds", "Cause", "HeavyError", "Info", "Interval", "Kind", "Layout", "Row", "Summary", "Table", "merge", "report", "report_csv",
+]
 
-for _public in (Bounds, HeavyError, Info, Interval, Layout, Row, Summary, Table, merge, report, report_csv):
+for _public in (Bounds, Cause, HeavyError, Info, Interval, Kind, Layout, Row, Summary, Table, merge, report, report_csv):
     _public.__module__ = __name__
 
 

@@ -23,7 +23,7 @@ from ._library import checked, flag, given, integer, joined, lent, random_words,
 from ._library import word
 from ._lock import WITHIN, Lock, changing, reading
 from ._options import PLAIN, Layout, Threshold, share_of
-from ._records import Bounds, Given, Interval, Named, Records, Row, bytes_of, is_file, parts_of, records_in, rows_of, with_records
+from ._records import Bounds, Given, Interval, Named, Records, Row, bytes_of, is_file, parts_of, placing, records_in, rows_of, with_records
 
 _COLUMN_BATCH = 1 << 20  # items of a column that the library adds at once
 _METHODS = ("mg", "ss")
@@ -711,8 +711,9 @@ class Summary(_File, Mapping[Any, Interval]):
         >>> Summary.of_csv(b"a,5\\nb,2\\n", k=2).confirm_csv(b"a,5\\nb,2\\n", "1/2")
         b'a,5\\n'
         """
-        share = share_of(threshold)
-        return self._confirmed(records_in(records), share, layout)
+        share, text = share_of(threshold), records_in(records)
+        with placing(records, text, layout):
+            return self._confirmed(text, share, layout)
 
     def _confirmed(self, text: bytes, share: Tuple[int, int], layout: Layout) -> bytes:
         """The rows of a report of records."""
@@ -727,7 +728,9 @@ class Summary(_File, Mapping[Any, Interval]):
         b'a,1\\nothers,2\\n'
         """
         text = records_in(records)
-        return answer(calls.heavy_condense_records, *lent(self.to_bytes()), *lent(text), *layout._words(), guess=SMALL)
+        words = (*lent(self.to_bytes()), *lent(text), *layout._words())
+        with placing(records, text, layout):
+            return answer(calls.heavy_condense_records, *words, guess=SMALL)
 
     def confirm_items(
         self, keys: Keys, weights: Iterable[int] | None = None, threshold: Threshold = None
@@ -916,13 +919,19 @@ def report_csv(
         raise ValueError("there must be a worker")
     share = share_of(threshold)
     whole = records_in(records)
-    parts = parts_of(whole, min(count, 64), layout)
+    with placing(records, whole, layout):
+        return _reported(whole, word("k", k), share, min(count, 64), layout)
+
+
+def _reported(whole: bytes, k: int, share: Tuple[int, int], count: int, layout: Layout) -> bytes:
+    """The rows of a report of a text, which so many threads read in parts."""
+    parts = parts_of(whole, count, layout)
     if len(parts) == 1:
-        return answer(calls.heavy_report, *lent(whole), *layout._words(), word("k", k), *share, guess=SMALL)
+        return answer(calls.heavy_report, *lent(whole), *layout._words(), k, *share, guess=SMALL)
     try:
         with ThreadPoolExecutor(len(parts)) as pool:
             summary = merge(pool.map(lambda part: Summary.of_csv(part, k, layout=layout), parts))
             condensed = b"".join(pool.map(lambda part: summary.condense(part, layout=layout), parts))
-        return summary.confirm_csv(condensed, threshold, layout=Layout(decimals=layout.decimals))
+        return summary._confirmed(condensed, share, Layout(decimals=layout.decimals))
     except HeavyError:  # told again with the number that the record has among all
-        return report_csv(whole, k, threshold, layout=layout)
+        return _reported(whole, k, share, 1, layout)

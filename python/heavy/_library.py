@@ -9,6 +9,8 @@ import secrets
 from pathlib import Path
 from typing import Any, Callable
 
+from ._faults import Cause, Kind
+
 _VERSION = 1
 DONE, USAGE, REFUSED, TOO_SMALL = 0, 2, 3, 5
 BAD_K, BAD_METHOD, BAD_RECORD, MIXED_KINDS, NOT_COUNTERS = 2, 7, 9, 11, 14
@@ -19,22 +21,32 @@ MAX_KEY, MAX_TOTAL = 4096, 2**63 - 1
 SMALL, LARGE = 1 << 16, 1 << 20  # bytes of rooms that are tried first
 
 
+_KINDS, _CAUSES = {kind.value for kind in Kind}, {cause.value for cause in Cause}
+
+
 class HeavyError(ValueError):
     """A refusal by the library: of a record, a saved file, an option such as k, or for want of memory.
 
-    Its text is the program's, and `status` the program's exit status: 2 an option, 3 a record, a file or a key, 4 memory.
-    `number` is that of the record, the file or the key, from 1 on, or 0. `part` is the path, or else the number from 0 on,
-    of the part of a collection of Dask whose records are refused, or None. `added` is how many items of an `update_many` by
-    batches are added all the same, or None.
+    Its text is the program's, in Python's words, and `status` the program's exit status: 2 an option, 3 a record, a file or a
+    key, 4 memory. `kind` is a `Kind`, and `cause` a `Cause`, or None where the kind says all. `number` is that of the record,
+    the file or the key, from 1 on, or 0. The others are None where there is nothing to tell: `path` names the file of a record,
+    `line` is the line from 1 on where the record begins, and a note has both. `part` is the path, or else the number from 0 on,
+    of the part of a collection of Dask whose records are refused. `added` is how many items of an `update_many` by batches are
+    added all the same.
     """
 
+    path: Any = None
+    line: int | None = None
     part: Any = None
     added: Any = None
 
     def __init__(self, status: int, kind: int, cause: int, number: int) -> None:
         self.status = status
+        self.kind = Kind(kind) if kind in _KINDS else None
+        self.cause = Cause((kind, cause)) if (kind, cause) in _CAUSES else None
         self.number = number
-        super().__init__(_text_of(Fault(kind, cause, number)))
+        text = _text_of(Fault(kind, cause, number))
+        super().__init__(text.replace("--header", "header=True").replace("one byte or \\t,", "one byte,"))
         self.numbers = (status, kind, cause, number)
 
     def __reduce__(self) -> tuple[type[HeavyError], tuple[int, int, int, int], dict[str, Any]]:
@@ -42,11 +54,14 @@ class HeavyError(ValueError):
 
 
 def say_added(refused: BaseException, added: int) -> None:
-    """Has what was raised within a call say how many of the call's items are added: as `added`, and in a note, or in the text
-    where this Python has no notes."""
+    """Has what was raised within a call say how many of the call's items are added: as `added`, and in a note."""
     with contextlib.suppress(AttributeError):
         setattr(refused, "added", added)
-    told = f"the first {added} items of this call are added, and no other" if added else "no item of this call is added"
+    say(refused, f"the first {added} items of this call are added, and no other" if added else "no item of this call is added")
+
+
+def say(refused: BaseException, told: str) -> None:
+    """Gives what was raised a note, which the text has where this Python has no notes."""
     if hasattr(refused, "add_note"):
         refused.add_note(told)
     elif isinstance(refused, (TypeError, ValueError)):

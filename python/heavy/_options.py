@@ -3,6 +3,7 @@ from __future__ import annotations
 
 import ctypes
 import functools
+import itertools
 import numbers
 import re
 from dataclasses import dataclass, fields
@@ -150,6 +151,13 @@ class Layout:
         record, _ = _patterns(self._separator)
         return record.findall(part[len(_MARK) :] if part.startswith(_MARK) else part)
 
+    def _line_of(self, part: bytes, number: int) -> int | None:
+        """The line on which the record of a part of a text begins that has this number, from 1 on, with a header among them."""
+        record, _ = _patterns(self._separator)
+        begin = len(_MARK) if part.startswith(_MARK) else 0
+        found = next(itertools.islice(record.finditer(part, begin), number - 1, None), None)
+        return None if found is None else lines_in(part[: found.start()]) + 1
+
     def _count(self, part: bytes) -> int:
         """How many records a part of a text has. Where a quote stands only at a field's ends or twice in one, each other
         run between quotes is outside them, and its lines are records."""
@@ -168,6 +176,11 @@ class Layout:
         record, _ = _patterns(self._separator)
         found = record.search(part, len(_MARK) if part.startswith(_MARK) else 0) if self.header else None
         return found[0] if found else b""
+
+
+def lines_in(text: bytes) -> int:
+    """How many lines end in a text, by CR, LF or both."""
+    return text.count(b"\n") + text.count(b"\r") - text.count(b"\r\n")
 
 
 def _column(name: str, column: Any) -> bytes:
