@@ -8,6 +8,7 @@ import collections.abc
 import contextlib
 import copy
 import ctypes
+import datetime
 import doctest
 import functools
 import importlib.util
@@ -629,6 +630,27 @@ class Misuses(unittest.TestCase):
                 self.refused(TypeError, rf"^keys\[1\]: {text}", call, ["a", number])
             for call in (self.summary.update, self.summary.ask, self.summary.get, self.summary.__getitem__, self.summary.__contains__):
                 self.refused(TypeError, f"^{text}", call, number)
+
+    def test_times_as_keys(self) -> None:
+        day = datetime.date(2026, 11, 30)
+        for time in (day, datetime.datetime(2026, 11, 30, 22), datetime.time(22), datetime.timedelta(5)):
+            text = rf"a key must be bytes or str, not '{type(time).__name__}'; of a date or a time give its text, as str\(key\)$"
+            for call in [*self.many(), self.summary.ask_many]:
+                self.refused(TypeError, rf"^keys\[1\]: {text}", call, ["a", time])
+            for call in (self.summary.update, self.summary.ask, self.summary.__getitem__):
+                self.refused(TypeError, f"^{text}", call, time)
+        if not has("numpy", "pandas"):
+            self.skipTest("numpy and pandas are not here")
+        import numpy
+        import pandas
+
+        for times in (numpy.array([day, day], dtype="M8[D]"), pandas.Series(pandas.to_datetime([day, day])), numpy.array([5], dtype="m8[s]")):
+            for call in self.many():
+                text = rf"^keys\[0\]: a key must be bytes or str, not '{re.escape(str(times.dtype))}'; of dates and times give keys.astype\(str\)$"
+                self.refused(TypeError, text, call, times)
+            summary = heavy.Summary(k=5)
+            summary.update_many(times.astype(str))
+            self.assertEqual(summary.total, len(times))
 
     def test_integers(self) -> None:
         """Integers of any kind are weights, and options too."""

@@ -4,6 +4,7 @@ from __future__ import annotations
 import array
 import copy
 import ctypes
+import datetime
 import decimal
 import itertools
 import numbers
@@ -56,6 +57,8 @@ def _advice(key: Any) -> str:
     """What to do in place of giving this as a key."""
     if isinstance(key, (numbers.Number, decimal.Decimal)):
         return "; of a number give its text, as str(number)"
+    if isinstance(key, (datetime.date, datetime.time, datetime.timedelta)):
+        return "; of a date or a time give its text, as str(key)"
     if isinstance(key, Mapping):
         return "; update_many takes the keys and weights of a mapping"
     if isinstance(key, (tuple, list)):
@@ -404,6 +407,8 @@ def columns_of(keys: Any) -> Columns:
     if texts.dtype.kind in "iufcb" and len(texts):
         advice = "of numbers give keys.astype(str)" + (", of weights by key keys.to_dict()" if hasattr(keys, "to_dict") else "")
         raise TypeError(f"keys[0]: a key must be bytes or str, not '{texts.dtype}'; {advice}")
+    if texts.dtype.kind in "mM" and len(texts):
+        raise TypeError(f"keys[0]: a key must be bytes or str, not '{texts.dtype}'; of dates and times give keys.astype(str)")
     return _numpy_columns(texts) if texts.dtype.kind == "S" else _columns_of_list(texts.tolist())
 
 
