@@ -995,6 +995,40 @@ class Frames(unittest.TestCase):
         frame = self.pandas.DataFrame({"a": [b"x", b"y", b"x"]})
         self.assertEqual([*heavy.pandas.report(frame, "a", k=2).itertuples(index=False, name=None)], [(b"x", 2)])
 
+    def test_several_columns(self) -> None:
+        """Columns of texts are one key, and come back as columns, whatever is in them."""
+        draw = random.Random(12)
+        texts = ["", "a", "é", 'b"', "c,d", "e\nf", "\r", '"', ",", "g\r\nh"]
+        for rows in (0, 1, 300, 3000):
+            pairs = [(draw.choice(texts), draw.choice(texts[:4]), draw.randint(1, 9)) for _ in range(rows)]
+            frame = self.pandas.DataFrame(pairs, columns=["host", "path", "bytes"]).astype({"bytes": "int64"})
+            for kind in (object, "string", "category"):
+                given = frame.astype({"host": kind, "path": object})
+                for weight, k, threshold in (("bytes", 50, None), (None, 20, None), ("bytes", 30, "1/20")):
+                    sums: collections.Counter[tuple[str, str]] = collections.Counter()
+                    for host, path, size in pairs:
+                        sums[host, path] += size if weight else 1
+                    least = sum(sums.values()) * Fraction(threshold or f"1/{k + 1}")
+                    wanted = {(host, path, all) for (host, path), all in sums.items() if all > least}
+                    found = heavy.pandas.report(given, ["host", "path"], weight, k, threshold)
+                    self.assertEqual([*found.columns], ["host", "path", weight or "weight"])
+                    told = [*found.itertuples(index=False, name=None)]
+                    self.assertEqual((len(told), {*told}), (len(wanted), wanted))
+                    self.assertEqual([row[2] for row in told], sorted((row[2] for row in told), reverse=True))
+        three = self.pandas.DataFrame([("a", "b", "c")] * 2 + [("a", "b", "d")], columns=[*"xyz"])
+        self.assertEqual(heavy.pandas.report(three, [*"xyz"], k=2).values.tolist(), [["a", "b", "c", 2]])
+        self.assertEqual(heavy.pandas.report(three, ["z"], k=2).values.tolist(), [["c", 2]])
+
+    def test_a_key_called_weight(self) -> None:
+        """The column of counts has another name than those of the key."""
+        frame = self.pandas.DataFrame({"weight": ["x", "x", "y"], "count": ["u", "u", "v"], "n": [1, 2, 9]})
+        for key, weight, columns, rows in (
+            ("weight", None, ["weight", "count"], [["x", 2]]), ("count", None, ["count", "weight"], [["u", 2]]),
+            (["weight", "count"], None, ["weight", "count", "total"], [["x", "u", 2]]), ("weight", "n", ["weight", "n"], [["y", 9]]),
+        ):
+            found = heavy.pandas.report(frame, key, weight, 1)
+            self.assertEqual(([*found.columns], found.values.tolist()), (columns, rows))
+
     def test_refusals(self) -> None:
         frame = self.pandas.DataFrame({"a": ["x", "y"], "b": [1, 2], "c": [0.5, 1], "d": [1, 0], "e": ["x", None]})
         for words, kind, text in (
@@ -1004,6 +1038,10 @@ class Frames(unittest.TestCase):
             ((frame, "a", "b", 0), heavy.HeavyError, "^k must"), ((frame, "a", "b", 1, "1/3"), heavy.HeavyError, "^threshold must"),
             ((frame, "a", "b", 1, 0.7), ValueError, "write '7/10'"), (({"a": ["x"]}, "a"), TypeError, "DataFrame of pandas .*'dict'$"),
             ((self.pandas.DataFrame([[1, 2]], columns=["a", "a"]), "a"), KeyError, "more than one column 'a'"),
+            ((frame, []), ValueError, r"^key must name a column, not \[\]$"), ((frame, ["a", "a"]), ValueError, "^key must name different columns"),
+            ((frame, ["a", "z"]), KeyError, "no column 'z'"), ((frame, ["a", "e"]), TypeError, r"^keys\[1\]: column 'e' must have texts, and has no value"),
+            ((frame, ["a", "b"]), TypeError, r"^keys\[0\]: column 'b' must have texts, not 'int'; of numbers give their texts"),
+            ((self.pandas.DataFrame({"a": ["x", "x" * 4095], "b": ["", "y"]}), ["a", "b"]), ValueError, r"^keys\[1\]: .* not 4097$"),
         ):
             self.assertRaisesRegex(kind, text, heavy.pandas.report, *words)
 
