@@ -631,6 +631,46 @@ class Misuses(unittest.TestCase):
             for call in (self.summary.update, self.summary.ask, self.summary.get, self.summary.__getitem__, self.summary.__contains__):
                 self.refused(TypeError, f"^{text}", call, number)
 
+    def test_weights_of_zero(self) -> None:
+        """With skip_zero an item of weight 0 adds nothing; without it is refused, as is any other wrong weight always."""
+        keys, weights = [*"abzca"], [5, 3, 0, 2, 1]
+        given: list[tuple[object, object]] = [
+            (keys, weights), (tuple(keys), iter(weights)), (keys, array.array("i", weights)), ({"a": 6, "b": 3, "z": 0, "c": 2}, None),
+        ]
+        if has("numpy", "pandas"):
+            import numpy
+            import pandas
+
+            given += [(numpy.array([b"a", b"b", b"z", b"c", b"a"]), numpy.array(weights)), (pandas.Series(keys), pandas.Series(weights))]
+            given += [(pandas.Series(keys * 300), pandas.Series(weights * 300))]
+        for keys_given, weights_given in given:
+            many = 300 if len(keys_given) == 1500 else 1
+            listed = [*weights_given] if weights_given is not None else None
+            summary, table = heavy.Summary(k=5), heavy.Table(width=64)
+            for file in (summary, table):
+                file.update_many(keys_given, listed if not hasattr(weights_given, "dtype") else weights_given, skip_zero=True)
+                self.assertEqual((file.total, file.ask("z")), (11 * many, (0, 0)))
+            rows = [(b"a", 6 * many), (b"b", 3 * many), (b"c", 2 * many)]
+            self.assertEqual(summary.entries(), rows)
+            self.assertEqual(summary.confirm_items(keys_given, listed, skip_zero=True), rows)  # each above a sixth of 11
+            self.assertEqual(summary.condense_items(keys_given, listed, skip_zero=True), b"a,%d\nb,%d\nc,%d\n" % (6 * many, 3 * many, 2 * many))
+            for call in (summary.update_many, table.update_many, summary.confirm_items, summary.condense_items):
+                self.assertRaisesRegex(ValueError, r"^weights\[(2|'z')\]: a weight must be from 1 to 2\^63 - 1, not 0$", call, keys_given, listed)
+        for kind in (iter, list):
+            summary = heavy.Summary.of_csv(RECORDS, 2)
+            summary.update_many(kind(["z", "y"]), [0, 0], skip_zero=True)
+            self.assertEqual(summary, heavy.Summary.of_csv(RECORDS, 2))
+            for wrong, error, text in (
+                ([0, -1], ValueError, r"^weights\[1\]: a weight must be from 0 to 2\^63 - 1, not -1$"), ([0, False], TypeError, r"^weights\[1\]: .*'bool'"),
+                ([0, 2**63 - 11], heavy.HeavyError, "^record 2: total too large$"), ([0], ValueError, "^there are fewer weights"),
+            ):
+                with self.assertRaisesRegex(error, text):
+                    summary.update_many(kind(["z", "y"]), wrong, skip_zero=True)
+            with self.assertRaisesRegex(ValueError, r"^keys\[0\]: a key must have 1 to 4096 bytes, not 0$"):
+                summary.update_many(kind([""]), [0], skip_zero=True)
+            self.assertRaisesRegex(TypeError, "^skip_zero must be True or False, not 'int'$", lambda: summary.update_many(kind("a"), skip_zero=1))
+            self.assertEqual(summary, heavy.Summary.of_csv(RECORDS, 2))
+
     def test_times_as_keys(self) -> None:
         day = datetime.date(2026, 11, 30)
         for time in (day, datetime.datetime(2026, 11, 30, 22), datetime.time(22), datetime.timedelta(5)):

@@ -84,15 +84,20 @@ def _refused_key(size: int) -> ValueError:
     return ValueError(f"a key must have 1 to {MAX_KEY} bytes, not {size}")
 
 
-def integer_of_weight(weight: int) -> int:
-    """A weight that an item can have."""
+def integer_of_weight(weight: int, least: int = 1) -> int:
+    """A weight that an item can have, or 0 where that is the least."""
     if is_flag(weight) or not hasattr(weight, "__index__"):
         advice = "; take its low or its high" if hasattr(weight, "low") else ""
         raise TypeError(f"a weight must be an integer, not {type(weight).__name__!r}{advice}")
     number = operator.index(weight)
-    if not 1 <= number <= MAX_TOTAL:
-        raise ValueError(f"a weight must be from 1 to 2^63 - 1, not {number}")
+    if not least <= number <= MAX_TOTAL:
+        raise ValueError(f"a weight must be from {least} to 2^63 - 1, not {number}")
     return number
+
+
+def _integer_or_zero(weight: int) -> int:
+    """A weight that an item can have, or 0."""
+    return integer_of_weight(weight, 0)
 
 
 def columns_named(given: Any) -> list[Any] | None:
@@ -454,19 +459,22 @@ def _weights_in(weights: Any) -> Any:
     return values
 
 
-def numbers_of(weights: Any, count: int, names: list[Any] | None = None) -> Any:
-    """As many weights as there are keys, all of them checked, or None for 1 each. Weights may go on for ever: one too many
-    is enough to refuse them."""
+def numbers_of(weights: Any, count: int, names: list[Any] | None = None, zero: bool = False) -> Any:
+    """As many weights as there are keys, all of them checked, or None for 1 each; with `zero` there may be some of 0. Weights
+    may go on for ever: one too many is enough to refuse them."""
     if weights is None:
         return None
     values = _weights_in(weights)
     if _is_integers(values):
         least, most = _least_and_most(values) if len(values) else (0, 0)
-        if len(values) == count and 1 <= least <= most <= MAX_TOTAL:
+        if len(values) == count and (0 if zero else 1) <= least <= most <= MAX_TOTAL:
             return array.array("Q", values) if isinstance(values, array.array) else _words_of(values)
         values = values.tolist()
     given = itertools.islice(values, count + 1)
-    checked = array.array("Q", _all_checked("weights", integer_of_weight, given, names))
+    check: Callable[[int], int] = integer_of_weight
+    if zero:
+        check = _integer_or_zero
+    checked = array.array("Q", _all_checked("weights", check, given, names))
     if len(checked) != count:
         told = "more" if len(checked) > count else "fewer"
         raise ValueError(f"there are {told} weights than keys, which are {count}")
@@ -482,21 +490,32 @@ class Items(NamedTuple):
     many: int
 
 
-def items_of(keys: Any, weights: Any, room: int = 0) -> Items:
+def _items(columns: Columns, numbers: Any) -> Items:
+    """Items of these keys and weights, but for those of weight 0."""
+    count = len(columns.ends)
+    if numbers is None or not count or _least_and_most(numbers)[0]:
+        return Items(columns, numbers, numbers, count)
+    weights = numbers.tolist()
+    left = _columns_of_list([word for word, weight in zip(columns.words(), weights) if weight])
+    return Items(left._replace(text=columns.text), array.array("Q", filter(None, weights)), numbers, count)
+
+
+def items_of(keys: Any, weights: Any, room: int = 0, skip_zero: bool = False) -> Items:
     """Keys and weights, all of them checked: those given, or those of a mapping. Equal keys of a column of pandas or pyarrow
-    are one item where the different ones are at most `room`."""
+    are one item where the different ones are at most `room`. With `skip_zero` items of weight 0 are left out."""
     if isinstance(keys, Mapping):
         if weights is not None:
             raise TypeError(f"keys is a {type(keys).__name__}, which has weights of its own; give none beside it")
         columns = columns_of([*keys])
-        numbers = numbers_of([*keys.values()], len(columns.ends), [*keys])
+        numbers = numbers_of([*keys.values()], len(columns.ends), [*keys], skip_zero)
     else:
-        together = _together(keys, weights, room) if room and hasattr(keys, "to_numpy") and columns_named(keys) is None else None
+        is_column = hasattr(keys, "to_numpy") and columns_named(keys) is None
+        together = _together(keys, weights, room) if room and is_column else None
         if together is not None:
             return together
         columns = columns_of(keys)
-        numbers = numbers_of(weights, len(columns.ends))
-    return Items(columns, numbers, numbers, len(columns.ends))
+        numbers = numbers_of(weights, len(columns.ends), None, skip_zero)
+    return _items(columns, numbers)
 
 
 _BATCH, _BATCH_BYTES, _BLOCK = 1 << 16, 1 << 22, 1 << 12  # the items and the bytes of a batch of keys, and how many are read at once
@@ -521,7 +540,7 @@ def _next_batch(first: list[Any], keys: Iterator[Any]) -> list[Any]:
     return batch
 
 
-def batches_of(keys: Iterable[Any], weights: Any) -> Iterator[Items]:
+def batches_of(keys: Iterable[Any], weights: Any, skip_zero: bool) -> Iterator[Items]:
     """Keys and weights in batches, in order, each of them checked before it comes. The last one comes once no weight is left."""
     coming, numbers, before = iter(keys), None if weights is None else iter(_weights_in(weights)), 0
     first = [*itertools.islice(coming, 1)]
@@ -535,11 +554,11 @@ def batches_of(keys: Iterable[Any], weights: Any) -> Iterator[Items]:
             if given is not None and len(given) != count:
                 told = "more" if len(given) > count else "fewer"
                 raise ValueError(f"there are {told} weights than keys, which are {before + count}{' or more' if first else ''}")
-            checked = numbers_of(given, count)
+            checked = numbers_of(given, count, None, skip_zero)
         except (TypeError, ValueError) as refused:
             raise _among_all(refused, before) from None
         del batch, given
-        yield Items(columns, checked, checked, count)
+        yield _items(columns, checked)
         before += count
         if not first:
             return

@@ -234,7 +234,7 @@ class _File:
             finally:
                 lock.owner = None
 
-    def update_many(self, keys: Keys, weights: Iterable[int] | None = None) -> None:
+    def update_many(self, keys: Keys, weights: Iterable[int] | None = None, *, skip_zero: bool = False) -> None:
         """Adds an item for each of these keys, in order, with as many weights, or else of weight 1 each; or the keys and
         weights of a mapping, such as a Counter. A text is its bytes in UTF-8. Keys and weights may be arrays of numpy,
         columns of pandas, or what Arrow's interface gives. Each call goes through the whole file: for a few items `update` is
@@ -242,7 +242,8 @@ class _File:
 
         What is no key or no integer is a `TypeError`, and a key or a weight outside of the limits, or another number of
         weights, a `ValueError`, each with the index in keys or weights. A total above 2^63 - 1 is a `HeavyError` with the
-        item's number from 1 on. After a refusal none of these items is added.
+        item's number from 1 on. After a refusal none of these items is added. With `skip_zero` an item of weight 0 adds nothing,
+        and is no fault.
 
         Keys of which nothing tells how many they are, as those of an iterator, may go on for any length, with little memory.
         They are added in batches of some ten thousands, each whole or not at all, and items of other threads may come between
@@ -260,10 +261,11 @@ class _File:
         """
         if isinstance(keys, _File):
             raise TypeError(f"keys is a {type(keys).__name__}, which is merged, as by +=")
+        skip_zero = flag("skip_zero", skip_zero)
         if comes_by_batches(keys):
-            self._add_batches(batches_of(keys, weights))
-        elif not self._add(items_of(keys, weights, self._room() if hasattr(keys, "to_numpy") else 0), ordered=True):
-            self._add(items_of(keys, weights))
+            self._add_batches(batches_of(keys, weights, skip_zero))
+        elif not hasattr(keys, "to_numpy") or not self._add(items_of(keys, weights, self._room(), skip_zero), ordered=True):
+            self._add(items_of(keys, weights, 0, skip_zero))
 
     def _add_batches(self, batches: Iterator[Items]) -> None:
         """Adds batches of items. What is raised says how many items were added."""
@@ -733,14 +735,14 @@ class Summary(_File, Mapping[Any, Interval]):
             return answer(calls.heavy_condense_records, *words, guess=SMALL)
 
     def confirm_items(
-        self, keys: Keys, weights: Iterable[int] | None = None, threshold: Threshold = None
+        self, keys: Keys, weights: Iterable[int] | None = None, threshold: Threshold = None, *, skip_zero: bool = False
     ) -> List[Row]:
         """What `confirm` gives of items in memory, which are as `update_many` takes them.
 
         >>> Summary.of_csv(b"a,5\\nb,2\\n", k=2).confirm_items(["a", "b", "a"], [4, 2, 1])
         [Row(key=b'a', weight=5)]
         """
-        return self._confirm(items_of(keys, weights, ANY), share_of(threshold))
+        return self._confirm(items_of(keys, weights, ANY, flag("skip_zero", skip_zero)), share_of(threshold))
 
     def _confirm(self, items: Items, share: Tuple[int, int]) -> List[Row]:
         """The report of items that were checked."""
@@ -751,7 +753,7 @@ class Summary(_File, Mapping[Any, Interval]):
         words = (*lent(self.to_bytes()), *lent_items(items.columns, items.weights))
         return answer(calls.heavy_condense_items_by, *words, ctypes.byref(HashWords(random_words())), guess=SMALL)
 
-    def condense_items(self, keys: Keys, weights: Iterable[int] | None = None) -> bytes:
+    def condense_items(self, keys: Keys, weights: Iterable[int] | None = None, *, skip_zero: bool = False) -> bytes:
         """What `condense` gives of items in memory, which are as `update_many` takes them: so a second pass goes over
         parts of a stream, and what comes of them is confirmed together, joined in any order.
 
@@ -759,7 +761,7 @@ class Summary(_File, Mapping[Any, Interval]):
         >>> summary.confirm(summary.condense_items(["a", "b"], [3, 2]) + summary.condense_items({"a": 2}))
         [Row(key=b'a', weight=5)]
         """
-        return self._condensed(items_of(keys, weights, ANY))
+        return self._condensed(items_of(keys, weights, ANY, flag("skip_zero", skip_zero)))
 
 
 def _key(key: bytes, text: bool) -> Any:
