@@ -76,6 +76,17 @@ class Pages(unittest.TestCase):
         if header.exists():
             self.assertIn(f'#define HEAVY_RELEASE "{heavy.__version__}"', header.read_text())
 
+    def test_installing_the_sources(self) -> None:
+        """Where pip is given the sources, which have no library, it is told what to run."""
+        setup = Path(__file__).resolve().parent / "setup.py"
+        if not setup.exists():
+            self.skipTest("the sources are not here")
+        with tempfile.TemporaryDirectory() as room:
+            ran = subprocess.run([sys.executable, str(setup), "egg_info"], cwd=room, capture_output=True, text=True)
+        told = "heavy: the shared library is not beside the sources; run `bin/wheel DIR` in the repository, and then " \
+            "`pip install DIR/heavy-*.whl`\n"
+        self.assertEqual((ran.returncode, ran.stdout, ran.stderr), (1, "", told))
+
     def test_pydoc(self) -> None:
         """pydoc prints one page: the names that the module lists, their public calls, and no private one."""
         page = pydoc.plain(pydoc.render_doc(heavy))
