@@ -1730,6 +1730,128 @@ class GrowingTables(unittest.TestCase):
                 self.assertGreaterEqual(table.estimate(key), weight)
 
 
+class Sizes(unittest.TestCase):
+    """Summaries and tables by the error that is wanted, windows, and what a notebook shows."""
+
+    def test_summaries(self) -> None:
+        """k is the least whose k + 1 times the error is at least the whole, so that no slack is above that share of the total."""
+        for error, k in (
+            ("1/1000", 999), ("0.1%", 999), ("0.001", 999), ((1, 1000), 999), (Fraction(1, 1000), 999), (Decimal("0.001"), 999),
+            ("1/3", 2), ("2/5", 2), ("3/7", 2), (0.5, 1), (0.25, 3), (1, 1), ("1/1", 1), ("3/4", 1), ("1/65536", 65535),
+            # a float below a third wants one counter more, since it is just that number
+            (1 / 3, 3), *((kind(0.25), 3) for kind in reals()),
+        ):
+            made = heavy.Summary.for_error(error, text=True)
+            self.assertEqual((made.k, made.total, made.text, heavy.Summary.for_error(error).text), (k, 0, True, False), error)
+        draw = random.Random(5)
+        for error in ("1/7", "3/20", "1/50"):
+            summary = heavy.Summary.for_error(error)
+            summary.update_many(f"k{int(draw.expovariate(0.02))}" for _ in range(3000))
+            self.assertTrue(0 < summary.slack <= Fraction(error) * 3000, error)
+        self.assertRaisesRegex(ValueError, "^an error of 1/65537 wants a k of 65536, and the largest is 65535$", heavy.Summary.for_error, "1/65537")
+
+    def test_tables(self) -> None:
+        # e is 2.71828, and of the logarithms that of 10 is 2.30259, of 100 4.60517 and of e 1
+        for error, chance, width, depth in (
+            ("1/100", "1/100", 272, 5), ("1%", "10%", 272, 3), (0.5, 0.5, 6, 1), (1, 1, 3, 1), ("1/10", "1/1000000", 28, 14),
+            ("1/24109", "1/3", 65536, 2), (Decimal("0.01"), Fraction(1, 100), 272, 5),
+        ):
+            made = heavy.Table.for_error(error, chance, seed=7)
+            self.assertEqual((made.width, made.depth, made), (width, depth, heavy.Table(width=width, depth=depth, seed=7)))
+        for width, error in ((1, 2.718281828), (1000, 0.002718281828), (65536, 0.00004147769)):
+            self.assertAlmostEqual(heavy.Table(width=width).error, error, 9)
+        for words, text in (
+            (("1/24110", "1/3"), "^an error of 1/24110 wants a width of 65538, and the largest is 65536$"),
+            (("1/10", "1/10000000"), "^a chance of 1/10000000 wants a depth of 17, and the largest is 16$"),
+        ):
+            self.assertRaisesRegex(ValueError, text, heavy.Table.for_error, *words)
+
+    def test_estimates(self) -> None:
+        """Of the estimates of 3,000 keys a few are too high at the most, as the textbook has it."""
+        draw = random.Random(15)
+        exact = collections.Counter(f"k{int(draw.expovariate(0.002))}" for _ in range(20_000))
+        table = heavy.Table.for_error("1/100", "1/100", seed=3)
+        table.update_many(exact)
+        above = [key for key, weight in exact.items() if table.estimate(key) - weight > 200]
+        self.assertTrue(len(exact) > 1000 and len(above) <= len(exact) / 100, above)
+
+    def test_refusals(self) -> None:
+        for share in (0, 0.0, -0.5, 1.5, 2, "2/1", "0/5", "0", (0, 5), (2, 1), (1, 0), "1/0", float("nan"), float("inf"), None, True, [1, 2], b"1/2"):
+            for call, name in (
+                (heavy.Summary.for_error, "error"), (lambda it: heavy.Table.for_error(it, "1/2"), "error"),
+                (lambda it: heavy.Table.for_error("1/2", it), "chance"),
+            ):
+                text = f"^{name} must be a share above 0 and at most 1, as '1/1000', not {re.escape(repr(share))}$"
+                self.assertRaisesRegex(ValueError, text, call, share)
+        self.assertRaisesRegex(ValueError, "^the error is a text as '1/4', '0.25' or '25%', not 'a tenth'$", heavy.Summary.for_error, "a tenth")
+
+    def test_windows(self) -> None:
+        """A window has the items of its last buckets, beside a list of Counters."""
+        draw = random.Random(60)
+        for buckets in (1, 2, 5):
+            window, counted = heavy.Window(k=30, buckets=buckets, text=True), [collections.Counter()]
+            for _ in range(200):
+                keys = [f"k{draw.randrange(20)}" for _ in range(draw.randrange(9))]
+                if draw.random() < 0.3:
+                    window.roll()
+                    counted = [*counted, collections.Counter()][-buckets:]
+                window.update_many(draw.choice([keys, iter(keys)]))
+                window.update("k0", 3)
+                counted[-1].update([*keys, "k0", "k0", "k0"])
+                whole = sum(counted, collections.Counter())
+                self.assertEqual({key: found.low for key, found in window.merged().items()}, whole)
+                self.assertEqual((window.merged().total, len(window), window.buckets, window.k), (whole.total(), len(counted), buckets, 30))
+        window.update_many(["z", "y"], [5, 0], skip_zero=True)
+        again = pickle.loads(pickle.dumps(window))
+        for made in (again, copy.copy(window), copy.deepcopy(window)):
+            made.update("z")
+            made.roll()
+            self.assertEqual((window.merged().ask("z"), made.merged().ask("z")), ((5, 5), (6, 6)))
+        self.assertEqual(repr(heavy.Window(k=3, buckets=2)), "<heavy.Window k=3 buckets=2 total=0>")
+        self.assertTrue(window)
+        for words, kind, text in (
+            ({"buckets": 0}, ValueError, "^buckets must be at least 1, not 0$"), ({"buckets": 2.0}, TypeError, "^buckets must be an integer"),
+            ({"k": 0}, heavy.HeavyError, "^k must be 1 to 65535$"),
+        ):
+            self.assertRaisesRegex(kind, text, lambda: heavy.Window(**words))
+
+    def test_the_bound_of_windows(self) -> None:
+        """The slack of what is merged is at most the total divided by k + 1, and each weight is within its bounds."""
+        draw, window, counted = random.Random(61), heavy.Window(k=9, buckets=4, text=True), [collections.Counter()]
+        for _ in range(60):
+            keys = [f"k{int(draw.expovariate(0.05))}" for _ in range(100)]
+            window.roll()
+            window.update_many(keys)
+            counted = [*counted, collections.Counter(keys)][-4:]
+            whole, merged = sum(counted, collections.Counter()), window.merged()
+            self.assertTrue(0 < merged.slack * 10 <= whole.total() == merged.total)
+            for key, weight in whole.items():
+                low, high = merged.ask(key)
+                self.assertTrue(low <= weight <= high)
+
+    def test_windows_of_threads(self) -> None:
+        """No item is lost where eight threads add to a window, some roll it and others ask."""
+        window = heavy.Window(k=9, buckets=1000)
+        works = [times(50, lambda: window.update("a", 2))] * 4 + [times(50, lambda: window.update_many(["a", "b"]))] * 4
+        self.assertEqual(at_once(*works, *[times(20, window.roll)] * 3, times(20, window.merged)), [])
+        self.assertEqual((window.merged().ask("a"), window.merged().ask("b"), len(window)), ((600, 600), (200, 200), 61))
+
+    def test_notebooks(self) -> None:
+        head = "<thead><tr><th>key</th><th>low</th><th>high</th></tr></thead>"
+        for given, text, wanted in (
+            (b"<b>&,5\n\xff,3\n", False,
+             f"<table><caption>heavy.Summary k=100 total=8 keys=2 slack=0</caption>{head}<tbody><tr><td>&lt;b&gt;&amp;</td><td>5</td><td>5</td></tr>"
+             "<tr><td>\\xff</td><td>3</td><td>3</td></tr></tbody></table>"),
+            ("é,1\n".encode(), True, f"<table><caption>heavy.Summary k=100 total=1 keys=1 slack=0</caption>{head}"
+             "<tbody><tr><td>é</td><td>1</td><td>1</td></tr></tbody></table>"),
+        ):
+            self.assertEqual(heavy.Summary.of_csv(given, text=text)._repr_html_(), wanted)
+        shown = heavy.Summary.of_csv(b"".join(b"k%d,%d\n" % (number, 100 - number) for number in range(21)))._repr_html_()
+        self.assertIn("keys=21, the first 20 of them slack=0</caption>", shown)
+        self.assertEqual((shown.count("<tr>"), "<td>k19</td>" in shown, "<td>k20</td>" in shown), (21, True, False))
+        self.assertEqual(heavy.Summary(b"HHS")._repr_html_(), "<p>&lt;heavy.Summary file 1: truncated&gt;</p>")
+
+
 class Arrow:
     """An array as Arrow's C interface gives it, from buffers that this object keeps."""
 

@@ -30,12 +30,14 @@ from ._files import Info, Summary, Table, merge, report, report_csv
 from ._library import HeavyError
 from ._options import Layout
 from ._records import Bounds, Interval, Row
+from ._window import Window
 
 __all__ = [
-    "Bounds", "Cause", "HeavyError", "Info", "Interval", "Kind", "Layout", "Row", "Summary", "Table", "merge", "report", "report_csv",
+    "Bounds", "Cause", "HeavyError", "Info", "Interval", "Kind", "Layout", "Row", "Summary", "Table", "Window", "merge", "report",
+    "report_csv",
 ]
 
-for _public in (Bounds, Cause, HeavyError, Info, Interval, Kind, Layout, Row, Summary, Table, merge, report, report_csv):
+for _public in (Bounds, Cause, HeavyError, Info, Interval, Kind, Layout, Row, Summary, Table, Window, merge, report, report_csv):
     _public.__module__ = __name__
 
 

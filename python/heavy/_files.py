@@ -4,8 +4,10 @@ from __future__ import annotations
 import array
 import copy
 import ctypes
+import html
 import importlib
 import itertools
+import math
 import os
 import secrets
 import struct
@@ -22,11 +24,13 @@ from ._library import SMALL, TABLE, TOTAL_TOO_LARGE, USAGE, Entry, Fault, HashWo
 from ._library import checked, flag, given, integer, joined, lent, random_words, say_added
 from ._library import word
 from ._lock import WITHIN, Lock, changing, reading
-from ._options import PLAIN, Layout, Threshold, share_of
+from ._options import PLAIN, Layout, Threshold, error_of, share_of
 from ._records import Bounds, Given, Interval, Named, Records, Row, bytes_of, is_file, parts_of, placing, records_in, rows_of, with_records
 
 _COLUMN_BATCH = 1 << 20  # items of a column that the library adds at once
 _METHODS = ("mg", "ss")
+_MOST_KEYS, _WIDEST, _DEEPEST = 65535, 65536, 16  # the largest k, width and depth
+_SHOWN = 20  # the most rows that a notebook shows
 File = TypeVar("File", bound="_File")
 
 
@@ -465,6 +469,20 @@ class Summary(_File, Mapping[Any, Interval]):
         return {**super()._state(saved), "_rows": (None, None)}
 
     @classmethod
+    def for_error(cls, error: Any, *, text: bool = False) -> Summary:
+        """The summary of no items with the least k by which a key's weight is never more than this share of the total above its
+        counter. The share is given as a threshold is, or as any float. A share for which k would be too large is a
+        `ValueError` with that k.
+
+        >>> Summary.for_error("1/1000")
+        <heavy.Summary k=999 total=0 keys=0 slack=0>
+        """
+        k = max(math.ceil(1 / error_of("error", error)) - 1, 1)
+        if k > _MOST_KEYS:
+            raise ValueError(f"an error of {error} wants a k of {k}, and the largest is {_MOST_KEYS}")
+        return cls(k=k, text=text)
+
+    @classmethod
     def of_csv(
         cls, records: Records, k: int = 100, method: str = "mg", *, layout: Layout = PLAIN, text: bool = False
     ) -> Summary:
@@ -697,6 +715,20 @@ class Summary(_File, Mapping[Any, Interval]):
         except HeavyError as refused:
             return f"<heavy.Summary {refused}>"
 
+    def _repr_html_(self) -> str:
+        """The first rows, as a notebook shows them."""
+        saved, text = self.to_bytes(), self.text
+        try:
+            info, rows = self._told(saved), [*self._by_key(saved).values()]
+        except HeavyError:
+            return f"<p>{html.escape(repr(self))}</p>"
+        cells = ((str(row.key) if text else row.key.decode("utf-8", "backslashreplace"), row.low, row.high) for row in rows[:_SHOWN])
+        lines = "".join(f"<tr><td>{html.escape(key)}</td><td>{low}</td><td>{high}</td></tr>" for key, low, high in cells)
+        left = f", the first {_SHOWN} of them" if len(rows) > _SHOWN else ""
+        told = f"k={info.k} total={info.total} keys={info.keys}{left} slack={info.slack}"
+        head = "<thead><tr><th>key</th><th>low</th><th>high</th></tr></thead>"
+        return f"<table><caption>heavy.Summary {told}</caption>{head}<tbody>{lines}</tbody></table>"
+
     def confirm(self, records: Records, threshold: Threshold = None, *, layout: Layout = PLAIN) -> List[Row]:
         """The exact report of the summary's keys that are heavy in these records, which are those that were summarised:
         above a share of the total of at least 1/(k + 1), or above just that, by falling weight and then by rising key.
@@ -834,6 +866,34 @@ class Table(_File):
         4
         """
         return int(self._told().depth or 0)
+
+    @classmethod
+    def for_error(cls, error: Any, chance: Any, *, seed: int = 0) -> Table:
+        """The table of no items whose estimate of a key is more than this share of the total too high with at most this chance, by
+        the textbook: a width of e / error and a depth of ln(1 / chance), rounded up. Nothing here proves that; what is proved is
+        that no estimate is below the weight. Both are given as a threshold is, or as any float. Where the width or the depth
+        would be too large, that is a `ValueError` with it.
+
+        >>> Table.for_error("1/100", "1/100")
+        <heavy.Table width=272 depth=5 total=0>
+        """
+        shares = error_of("error", error), error_of("chance", chance)
+        width, depth = math.ceil(math.e / shares[0]), max(math.ceil(-math.log(shares[1])), 1)
+        if width > _WIDEST:
+            raise ValueError(f"an error of {error} wants a width of {width}, and the largest is {_WIDEST}")
+        if depth > _DEEPEST:
+            raise ValueError(f"a chance of {chance} wants a depth of {depth}, and the largest is {_DEEPEST}")
+        return cls(width=width, depth=depth, seed=seed)
+
+    @property
+    def error(self) -> float:
+        """By what share of the total an estimate may be too high, but for a chance of exp(-depth): e / width. That is the
+        textbook's, and nothing here proves it.
+
+        >>> round(Table(width=1000).error, 6)
+        0.002718
+        """
+        return math.e / self.width
 
     def estimate(self, key: Key) -> int:
         """The least of the key's cells: at least its weight.

@@ -1,6 +1,7 @@
 """How records are laid out, and above which share of the total keys are heavy."""
 from __future__ import annotations
 
+import contextlib
 import ctypes
 import functools
 import itertools
@@ -37,7 +38,7 @@ def share_of(threshold: Threshold) -> tuple[int, int]:
             raise ValueError(f"a threshold is a pair (p, q), not {len(threshold)} numbers")
         p, q = word("p", threshold[0]), word("q", threshold[1])
     elif isinstance(threshold, str):
-        p, q = _share_of_text(threshold)
+        p, q = _share_of_text("a threshold", threshold)
     else:
         share = _fraction_of(threshold)
         p, q = share.numerator, share.denominator
@@ -46,15 +47,32 @@ def share_of(threshold: Threshold) -> tuple[int, int]:
     return p, q
 
 
-def _share_of_text(text: str) -> tuple[int, int]:
+def _share_of_text(name: str, text: str) -> tuple[int, int]:
     """The numbers of a text P/Q, or of one with a point or a percent sign, which is exact too."""
     if re.fullmatch(r"[0-9]+/[0-9]+", text):
         p, q = text.split("/")
         return int(p), int(q)
     if not re.fullmatch(r"([0-9]+\.?[0-9]*|\.[0-9]+)%?", text):
-        raise ValueError(f"a threshold is a text as '1/4', '0.25' or '25%', not {text!r}")
+        raise ValueError(f"{name} is a text as '1/4', '0.25' or '25%', not {text!r}")
     share = Fraction(text[:-1]) / 100 if text.endswith("%") else Fraction(text)
     return share.numerator, share.denominator
+
+
+def error_of(name: str, share: Any) -> Fraction:
+    """A share above 0 and at most 1, in all ways in which a threshold is given, and any float as the number that it is."""
+    p, q = 0, 1
+    if isinstance(share, str):
+        p, q = _share_of_text(f"the {name}", share)
+    elif isinstance(share, tuple) and len(share) == 2:
+        p, q = integer("p", share[0]), integer("q", share[1])
+    elif isinstance(share, numbers.Rational) and not is_flag(share):
+        p, q = int(share.numerator), int(share.denominator)
+    elif isinstance(share, (numbers.Real, Decimal)) and not is_flag(share):
+        with contextlib.suppress(ValueError, OverflowError):
+            p, q = Fraction(share if isinstance(share, Decimal) else float(share)).as_integer_ratio()
+    if not 0 < p <= q:
+        raise ValueError(f"{name} must be a share above 0 and at most 1, as '1/1000', not {share!r}")
+    return Fraction(p, q)
 
 
 def _fraction_of(threshold: Any) -> Fraction:
