@@ -518,7 +518,8 @@ def items_of(keys: Any, weights: Any, room: int = 0, skip_zero: bool = False) ->
     return _items(columns, numbers)
 
 
-_BATCH, _BATCH_BYTES, _BLOCK = 1 << 16, 1 << 22, 1 << 12  # the items and the bytes of a batch of keys, and how many are read at once
+_BATCH, _BATCH_BYTES = 1 << 16, 1 << 22  # how many keys, or bytes of keys, a batch has
+_BLOCK = 1 << 12  # how many keys of it are read at once
 
 
 def comes_by_batches(keys: Any) -> bool:

@@ -25,7 +25,8 @@ from ._library import checked, flag, given, integer, joined, lent, random_words,
 from ._library import word
 from ._lock import WITHIN, Lock, changing, reading
 from ._options import PLAIN, Layout, Threshold, error_of, share_of
-from ._records import Bounds, Given, Interval, Named, Records, Row, bytes_of, is_file, parts_of, placing, records_in, rows_of, with_records
+from ._records import Bounds, Given, Interval, Named, Records, Row, bytes_of, is_file, parts_of, placing, records_in
+from ._records import rows_of, with_records
 
 _COLUMN_BATCH = 1 << 20  # items of a column that the library adds at once
 _METHODS = ("mg", "ss")
@@ -722,8 +723,10 @@ class Summary(_File, Mapping[Any, Interval]):
             info, rows = self._told(saved), [*self._by_key(saved).values()]
         except HeavyError:
             return f"<p>{html.escape(repr(self))}</p>"
-        cells = ((str(row.key) if text else row.key.decode("utf-8", "backslashreplace"), row.low, row.high) for row in rows[:_SHOWN])
-        lines = "".join(f"<tr><td>{html.escape(key)}</td><td>{low}</td><td>{high}</td></tr>" for key, low, high in cells)
+        lines = ""
+        for row in rows[:_SHOWN]:
+            key = html.escape(row.key if text else row.key.decode("utf-8", "backslashreplace"))
+            lines += f"<tr><td>{key}</td><td>{row.low}</td><td>{row.high}</td></tr>"
         left = f", the first {_SHOWN} of them" if len(rows) > _SHOWN else ""
         told = f"k={info.k} total={info.total} keys={info.keys}{left} slack={info.slack}"
         head = "<thead><tr><th>key</th><th>low</th><th>high</th></tr></thead>"
@@ -869,8 +872,8 @@ class Table(_File):
 
     @classmethod
     def for_error(cls, error: Any, chance: Any, *, seed: int = 0) -> Table:
-        """The table of no items whose estimate of a key is more than this share of the total too high with at most this chance, by
-        the textbook: a width of e / error and a depth of ln(1 / chance), rounded up. Nothing here proves that; what is proved is
+        """The table of no items whose estimate of a key is more than this share of the total too high with at most this chance,
+        by the textbook: a width of e / error and a depth of ln(1 / chance), rounded up. Nothing here proves that; what is proved is
         that no estimate is below the weight. Both are given as a threshold is, or as any float. Where the width or the depth
         would be too large, that is a `ValueError` with it.
 

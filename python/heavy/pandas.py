@@ -68,8 +68,8 @@ def _field_texts(name: Any, column: Any) -> Any:
     fields = numpy.empty(len(different), dtype=object)
     for code, text in enumerate(different):
         if not isinstance(text, str):
-            advice = "; of numbers give their texts, as frame.astype(str)"
-            raise TypeError(f"keys[{codes.tolist().index(code)}]: column {name!r} must have texts, not {type(text).__name__!r}{advice}")
+            told = f"keys[{codes.tolist().index(code)}]: column {name!r} must have texts, not {type(text).__name__!r}"
+            raise TypeError(f"{told}; of numbers give their texts, as frame.astype(str)")
         fields[code] = '"' + text.replace('"', '""') + '"' if any(it in text for it in '",\r\n') else text
     if (codes < 0).any():
         raise TypeError(f"keys[{codes.tolist().index(-1)}]: column {name!r} must have texts, and has no value there")
