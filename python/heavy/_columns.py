@@ -14,7 +14,7 @@ import sys
 from collections.abc import Mapping, Set
 from typing import Any, Callable, Iterable, Iterator, NamedTuple, TypeVar, Union
 
-from ._library import MAX_KEY, MAX_TOTAL, is_flag, lent
+from ._library import MAX_KEY, MAX_TOTAL, added_so_far, is_flag, lent
 
 Key = Union[bytes, bytearray, memoryview, str]
 Keys = Union[Iterable[Key], Mapping[Any, int]]  # an iterable of keys, or a mapping from keys to weights
@@ -566,9 +566,9 @@ def batches_of(keys: Iterable[Any], weights: Any, skip_zero: bool) -> Iterator[I
 
 
 def _among_all(refused: TypeError | ValueError, before: int) -> Exception:
-    """The refusal of a batch, with the index that the key or the weight has among all."""
+    """The refusal of a batch, with the index that the key or the weight has among all, and how many items are added."""
     told = re.sub(r"^(keys|weights)\[(\d+)\]", lambda found: f"{found[1]}[{int(found[2]) + before}]", str(refused))
-    return type(refused)(told)
+    return type(refused)(f"{told}; {added_so_far(before)}" if before else told)
 
 
 def _together(keys: Any, weights: Any, room: int) -> Items | None:

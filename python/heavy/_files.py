@@ -252,8 +252,8 @@ class _File:
 
         Keys of which nothing tells how many they are, as those of an iterator, may go on for any length, with little memory.
         They are added in batches of some ten thousands, each whole or not at all, and items of other threads may come between
-        two. Where something is raised, `added` of it is the number of items of this call that are added, which its note says:
-        those of all batches before.
+        two. Where something is raised, `added` of it is the number of items of this call that are added, those of all batches
+        before. Where there are some, its text says so, or its note from Python 3.11 on.
 
         >>> summary = Summary()
         >>> summary.update_many(["a", b"b"], [5, 3])

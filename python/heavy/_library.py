@@ -30,7 +30,7 @@ class HeavyError(ValueError):
     Its text is the program's, in Python's words, and `status` the program's exit status: 2 an option, 3 a record, a file or a
     key, 4 memory. `kind` is a `Kind`, and `cause` a `Cause`, or None where the kind says all. `number` is that of the record,
     the file or the key, from 1 on, or 0. The others are None where there is nothing to tell: `path` names the file of a record,
-    `line` is the line from 1 on where the record begins, and a note has both. `part` is the path, or else the number from 0 on,
+    `line` is the line from 1 on where the record begins, and from Python 3.11 on a note has both. `part` is the path, or else the number from 0 on,
     of the part of a collection of Dask whose records are refused. `added` is how many items of an `update_many` by batches are
     added all the same.
     """
@@ -53,19 +53,24 @@ class HeavyError(ValueError):
         return HeavyError, self.numbers, self.__dict__
 
 
-def say_added(refused: BaseException, added: int) -> None:
-    """Has what was raised within a call say how many of the call's items are added: as `added`, and in a note."""
+def added_so_far(added: int) -> str:
+    """What is said of a call whose first items are added."""
+    return f"the first {added} items of this call are added, and no other"
+
+
+def say_added(raised: BaseException, added: int) -> None:
+    """Has what was raised within a call say how many of the call's items are added: as `added`, and where there are some in a
+    note, if the text doesn't say it."""
     with contextlib.suppress(AttributeError):
-        setattr(refused, "added", added)
-    say(refused, f"the first {added} items of this call are added, and no other" if added else "no item of this call is added")
+        setattr(raised, "added", added)
+    if added and added_so_far(added) not in str(raised):
+        say(raised, added_so_far(added))
 
 
-def say(refused: BaseException, told: str) -> None:
-    """Gives what was raised a note, which the text has where this Python has no notes."""
-    if hasattr(refused, "add_note"):
-        refused.add_note(told)
-    elif isinstance(refused, (TypeError, ValueError)):
-        refused.args = (f"{refused}; {told}", *refused.args[1:])
+def say(raised: BaseException, told: str) -> None:
+    """Gives what was raised a note, from Python 3.11 on, which has notes."""
+    if hasattr(raised, "add_note"):
+        raised.add_note(told)
 
 
 class Fault(ctypes.Structure):
