@@ -356,7 +356,7 @@ class Growing(unittest.TestCase):
     def test_memory_is_given_back(self) -> None:
         """The library has a value until its summary goes, or has items that came otherwise; of a file that is refused it has none."""
         for change, stays in (
-            (lambda it: it.update_many(["b"]), 0), (lambda it: it.update_csv(b"b\n"), 0), (lambda it: it.__iadd__(heavy.Summary(k=5)), 0),
+            (lambda it: it.update_many(["b", "c"]), 0), (lambda it: it.update_many(["b"]), 1), (lambda it: it.update_csv(b"b\n"), 0), (lambda it: it.__iadd__(heavy.Summary(k=5)), 0),
             (heavy.Summary.to_bytes, 1), (copy.copy, 1), (pickle.dumps, 1), (lambda it: it.update("b"), 1),
             (lambda it: self.assertRaises(ValueError, it.update, "a", 2**63 - 1), 1),
         ):
@@ -860,6 +860,28 @@ class Mappings(unittest.TestCase):
             found = [next(begun)]
             grown.update("z", 100)
             self.assertEqual((found + [*begun], "b" in grown), (wanted, False))
+
+    def test_rows_are_made_for_many_questions(self) -> None:
+        """The first question after a change makes no rows of all keys, and those behind it make them once."""
+        entries = heavy._files._entries
+        for make in (lambda it: it.update("a", 5), lambda it: it.update_many(["a", "b"], [5, 1])):
+            summary, found = heavy.Summary.of_csv(RECORDS, 2), []
+            with mock.patch.object(heavy._files, "_entries", lambda saved: found.append(1) or entries(saved)):
+                for number in range(3):
+                    make(summary)
+                    # a has 4 of 6, and gets 5 at a time
+                    self.assertEqual((summary["a"], found), ((9 + 5 * number, 11 + 5 * number), [1] * number))
+                    self.assertEqual(("zz" in summary, "b" in summary, summary.get("c", 7)), (False, True, 7))
+                    self.assertEqual(found, [1] * (number + 1))
+
+    def test_one_item_copies_no_file(self) -> None:
+        """update_many of one item does what update does, and is refused as it is."""
+        for file in (heavy.Summary(k=9), heavy.Table(width=64)):
+            with mock.patch.object(heavy._library.calls, "heavy_add_by", side_effect=AssertionError):
+                for given in ((["a"],), ({"a": 5},), (iter(["b"]), [3]), (("a",), array.array("B", [2]))):
+                    file.update_many(*given)
+                self.assertRaisesRegex(heavy.HeavyError, "^record 1: total too large$", file.update_many, ["a"], [2**63 - 11])
+            self.assertEqual((file.total, file.ask("a")[1], file.ask("b")[1]), (11, 8, 3))
 
     def test_what_was_asked_before(self) -> None:
         """What a summary remembers of its rows goes with the next item, of whatever call."""

@@ -58,6 +58,14 @@ def _info(saved: bytes) -> Info:
     return Info(words.version, "summary", words.total, words.k, words.keys, words.counters, words.slack)
 
 
+def _asked_of(saved: bytes, key: bytes) -> Tuple[int, int]:
+    """The least and the most that a key's weight can be, by a saved file."""
+    low, high, fault = ctypes.c_uint64(), ctypes.c_uint64(), Fault()
+    words = (*lent(saved), *lent(key), ctypes.byref(low), ctypes.byref(high))
+    checked(calls.heavy_ask(*words, ctypes.byref(fault)), fault)
+    return low.value, high.value
+
+
 def _with_items(saved: bytes, columns: Columns, weights: Any) -> bytes:
     """A saved file with these items added, at most `_COLUMN_BATCH` at a time."""
     data, ends, text = columns
@@ -200,11 +208,8 @@ class _File:
         >>> Summary.of_csv(b"a,5\\nb,2\\n", k=1).ask("a")
         (3, 5)
         """
-        low, high, fault = ctypes.c_uint64(), ctypes.c_uint64(), Fault()
         held = bytes_of_key(key)
-        words = (*lent(self.to_bytes()), *lent(held), ctypes.byref(low), ctypes.byref(high))
-        checked(calls.heavy_ask(*words, ctypes.byref(fault)), fault)
-        return low.value, high.value
+        return _asked_of(self.to_bytes(), held)
 
     def ask_many(self, keys: Iterable[Key]) -> List[Tuple[int, int]]:
         """What `ask` says of each of these keys, in order. The file is read once.
@@ -242,8 +247,8 @@ class _File:
     def update_many(self, keys: Keys, weights: Iterable[int] | None = None, *, skip_zero: bool = False) -> None:
         """Adds an item for each of these keys, in order, with as many weights, or else of weight 1 each; or the keys and
         weights of a mapping, such as a Counter. A text is its bytes in UTF-8. Keys and weights may be arrays of numpy,
-        columns of pandas, or what Arrow's interface gives. Each call goes through the whole file: for a few items `update` is
-        faster.
+        columns of pandas, or what Arrow's interface gives. Each call of more than one item goes through the whole file: for a few
+        items `update` is faster.
 
         What is no key or no integer is a `TypeError`, and a key or a weight outside of the limits, or another number of
         weights, a `ValueError`, each with the index in keys or weights. A total above 2^63 - 1 is a `HeavyError` with the
@@ -298,9 +303,18 @@ class _File:
         with changing(self._lock):
             if ordered and self._room() < len(items.columns.ends) < items.many:
                 return False
+            if items.many == len(items.columns.ends) == 1:
+                self._add_one(items.columns.between(0, int(items.columns.ends[0])), 1 if items.weights is None else int(items.weights[0]))
+                return True
             self._check_total(items.many, items.given)
             self._value = self._with(items)
             return True
+
+    def _add_one(self, key: bytes, weight: int) -> None:
+        """Adds an item with no copy of the file. The caller owns the lock."""
+        with self._lock.mutex:
+            value = self._value
+            (value if isinstance(value, Growing) else self._grown()).add(key, weight)
 
     def _with(self, items: Items) -> bytes:
         """The file's bytes with items added."""
@@ -465,9 +479,10 @@ class Summary(_File, Mapping[Any, Interval]):
         super().__init__(saved)
         self.text = bool(text)
         self._rows: Tuple[Any, Any] = (None, None)  # the file's bytes, and its rows by key
+        self._asked: Any = None  # the file's bytes of which a key was asked last, with no rows
 
     def _state(self, saved: bytes) -> Dict[str, Any]:
-        return {**super()._state(saved), "_rows": (None, None)}
+        return {**super()._state(saved), "_rows": (None, None), "_asked": None}
 
     @classmethod
     def for_error(cls, error: Any, *, text: bool = False) -> Summary:
@@ -614,8 +629,14 @@ class Summary(_File, Mapping[Any, Interval]):
             held = bytes_of_key(key)
         except ValueError:  # no key has so many bytes
             return default
-        row = self._by_key().get(held)
-        return default if row is None else Interval(row.low, row.high)
+        saved = self.to_bytes()
+        if self._rows[0] is saved or self._asked is saved:
+            row = self._by_key(saved).get(held)
+            return default if row is None else Interval(row.low, row.high)
+        self._told(saved)
+        low, high = _asked_of(saved, held)
+        self._asked = saved  # rows of all keys are made at the next question, if the file is the same then
+        return Interval(low, high) if low else default
 
     def items(self) -> ItemsView[Any, Interval]:
         """The keys that have a counter, each with the least and the most of its weight, as a view.
