@@ -1485,23 +1485,49 @@ class OneObject(unittest.TestCase):
 
     def test_two_at_one_time(self) -> None:
         """A merge has its files as they are at one time."""
-        first, second = heavy.Summary(k=3), heavy.Summary(k=3)
-        for file, key in ((first, "a"), (second, "b")):
-            file.update(key)
-
-        def add() -> None:
-            first.update("a")
-            second.update("b")
+        twice = {key: heavy.Summary.of_csv(f"{key},2\n".encode(), 3) for key in "ab"}
 
         def ahead(file: heavy.Summary) -> int:
             return file.ask("a")[0] - file.ask("b")[0]
 
-        found: set[int] = set()
-        reads = [lambda: found.add(ahead(heavy.merge(second, first))), lambda: found.add(ahead(second + first))]
-        self.assertEqual(at_once(times(2000, add), *(times(500, read) for read in reads)), [])
-        # a is added first, so that it is ahead by one or by none
-        self.assertTrue(found <= {0, 1}, found)
-        self.assertEqual(ahead(first + second), 0)
+        for name, change in {
+            "update": lambda it, key: it.update(key, 2), "update_many": lambda it, key: it.update_many([key, key]),
+            "update_many of one": lambda it, key: it.update_many([key], [2]), "update_csv": lambda it, key: it.update_csv(f"{key},2\n".encode()),
+            "+=": lambda it, key: it.__iadd__(twice[key]),
+        }.items():
+            first, second, found = heavy.Summary(k=3), heavy.Summary(k=3), set()
+            add = [times(1000, lambda: (change(first, "a"), change(second, "b")))]
+            reads = [lambda: found.add(ahead(heavy.merge(second, first))), lambda: found.add(ahead(first + second))] * 2
+            with self.subTest(name):
+                self.assertEqual(at_once(*add, *(times(400, read) for read in reads)), [])
+                # a is added first, so that it is ahead by what one call adds or by nothing
+                self.assertTrue(found <= {0, 2}, found)
+                self.assertEqual((ahead(first + second), first.total, second.total), (0, 2000, 2000))
+
+    def test_values_are_set_under_the_mutex(self) -> None:
+        """A value is set while no other thread reads several objects at one time: each read holds their mutexes."""
+        for kind in (heavy.Summary, heavy.Table):
+            set_: list[bool] = []
+
+            class Watched(kind):
+                def __setattr__(self, name: str, value: object) -> None:
+                    if name == "_value" and "_lock" in self.__dict__:
+                        thread = threading.Thread(target=self.look)
+                        thread.start()
+                        thread.join()
+                    super().__setattr__(name, value)
+
+                def look(self) -> None:
+                    set_.append(self._lock.mutex.acquire(blocking=False))
+                    if set_[-1]:
+                        self._lock.mutex.release()
+
+            other = Watched(kind.of_csv(b"a,5\nb,3\n").to_bytes())
+            for name, change in self.CHANGES.items():
+                set_.clear()
+                with self.subTest(name):
+                    change(Watched(), other)
+                    self.assertEqual((len(set_) > 0, any(set_)), (True, False))
 
     READS = {
         "rows": lambda it: {row.key: row.low for row in it.rows()},

@@ -97,7 +97,7 @@ def _empty_table(width: int, depth: int, seed: int) -> bytes:
 
 class _File:
     """A saved file: its bytes, or from the first item on that comes by itself the value of it that grows. Who sets `_value` owns
-    the lock, and who uses one that grows holds the lock's mutex. A read takes the bytes once, and then needs no lock."""
+    the lock and holds its mutex, as does who uses one that grows. A read takes the bytes once, and then needs no lock."""
 
     _row = ""  # what only a file of this kind has in its description
     _other: Tuple[int, int] = (0, 0)  # the numbers of the refusal of another kind
@@ -160,6 +160,11 @@ class _File:
         with self._lock.mutex:
             value = self._value
             return value if isinstance(value, bytes) else value.saved()
+
+    def _set(self, saved: bytes) -> None:
+        """Makes these the file's bytes. The caller owns the lock."""
+        with self._lock.mutex:
+            self._value = saved
 
     def _grown(self) -> Growing:
         """The file's value, which has to be of this kind, as it grows from now on. The caller owns the lock."""
@@ -307,7 +312,7 @@ class _File:
                 self._add_one(items.columns.between(0, int(items.columns.ends[0])), 1 if items.weights is None else int(items.weights[0]))
                 return True
             self._check_total(items.many, items.given)
-            self._value = self._with(items)
+            self._set(self._with(items))
             return True
 
     def _add_one(self, key: bytes, weight: int) -> None:
@@ -330,7 +335,7 @@ class _File:
         [(b'a', 7), (b'b', 1)]
         """
         with changing(self._lock):
-            self._value = with_records(self.to_bytes(), records, layout, self._begun(layout))
+            self._set(with_records(self.to_bytes(), records, layout, self._begun(layout)))
 
     def _begun(self, layout: Layout) -> Callable[[bytes], bytes] | None:
         """What makes a file of this kind of a text's records, where that is faster than to add them to one of no items."""
@@ -382,7 +387,7 @@ class _File:
         if type(other) is not type(self):
             return NotImplemented
         with changing(self._lock, other._lock):
-            self._value = merge(self, other).to_bytes()
+            self._set(merge(self, other).to_bytes())
         return self
 
     __ior__ = __iadd__
