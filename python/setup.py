@@ -1,12 +1,18 @@
 """The name of the wheel: for any Python 3, and for the machines that run the shared library inside."""
+import sys
 from pathlib import Path
 
-from setuptools import Distribution, setup
-from wheel.bdist_wheel import bdist_wheel
+LIBRARY = Path("heavy", "libheavy.so.1")
+if not LIBRARY.exists():
+    sys.exit("heavy: the shared library is not beside the sources; run `bin/wheel DIR` in the repository, and then "
+             "`pip install DIR/heavy-*.whl`")
+
+from setuptools import Distribution, setup  # noqa: E402
+from wheel.bdist_wheel import bdist_wheel  # noqa: E402
 
 versions = {
     tuple(map(int, word.split(b"\0")[0].split(b".")))
-    for word in Path("heavy", "libheavy.so.1").read_bytes().split(b"\0GLIBC_")[1:]
+    for word in LIBRARY.read_bytes().split(b"\0GLIBC_")[1:]
 }
 
 

@@ -4,10 +4,13 @@ from __future__ import annotations
 
 import array
 import collections
+import collections.abc
 import contextlib
 import copy
 import ctypes
+import datetime
 import doctest
+import functools
 import importlib.util
 import io
 import itertools
@@ -73,6 +76,17 @@ class Pages(unittest.TestCase):
         if header.exists():
             self.assertIn(f'#define HEAVY_RELEASE "{heavy.__version__}"', header.read_text())
 
+    def test_installing_the_sources(self) -> None:
+        """Where pip is given the sources, which have no library, it is told what to run."""
+        setup = Path(__file__).resolve().parent / "setup.py"
+        if not setup.exists():
+            self.skipTest("the sources are not here")
+        with tempfile.TemporaryDirectory() as room:
+            ran = subprocess.run([sys.executable, str(setup), "egg_info"], cwd=room, capture_output=True, text=True)
+        told = "heavy: the shared library is not beside the sources; run `bin/wheel DIR` in the repository, and then " \
+            "`pip install DIR/heavy-*.whl`\n"
+        self.assertEqual((ran.returncode, ran.stdout, ran.stderr), (1, "", told))
+
     def test_pydoc(self) -> None:
         """pydoc prints one page: the names that the module lists, their public calls, and no private one."""
         page = pydoc.plain(pydoc.render_doc(heavy))
@@ -93,7 +107,7 @@ class Pages(unittest.TestCase):
             caller = Path(room, "caller.py")
             caller.write_text(
                 "import heavy\nsummary = heavy.Summary(k=5)\nsummary.update_many(['a'], [1])\nsummary.update_many({'a': 1})\n"
-                "both: heavy.Summary = summary + summary\nlow: int = both.top(1)[0].low\nsummary.update(5)\n"
+                "both: heavy.Summary = summary + summary\nlow: int = both.top(1)[0].low + both['a'].low\nsummary.update(5)\n"
                 "heavy.merge(summary, heavy.Table()).entries()\n"
             )
             words = [sys.executable, "-m", "mypy", "--strict", "--cache-dir", room]
@@ -182,7 +196,7 @@ class Growing(unittest.TestCase):
         for summary, k in ((heavy.Summary(), 100), (heavy.Summary(k=7), 7), (heavy.Summary(k=65535), 65535)):
             self.assertEqual((summary.k, summary.total, summary.slack, len(summary)), (k, 0, 0, 0))
             self.assertEqual(summary.to_bytes(), program("summarise", "--k", str(k)).stdout)
-            self.assertEqual((summary.items(), bool(summary), summary.ask("a")), ([], True, (0, 0)))
+            self.assertEqual((summary.rows(), bool(summary), summary.ask("a")), ([], True, (0, 0)))
         for k in (0, 65536):
             with self.assertRaisesRegex(heavy.HeavyError, "k must be 1 to 65535"):
                 heavy.Summary(k=k)
@@ -196,12 +210,12 @@ class Growing(unittest.TestCase):
         summary.update_many(iter(["b", b"c"]), (Index(3), Index(2)))
         summary.update(memoryview(b"a"))
         self.assertEqual((summary.total, summary.slack, len(summary)), (11, 2, 2))
-        self.assertEqual(summary.items(), [(b"a", 4, 6), (b"b", 1, 3)])
+        self.assertEqual(summary.rows(), [(b"a", 4, 6), (b"b", 1, 3)])
         self.assertEqual(summary, heavy.Summary.of_csv(RECORDS, 2))
         self.assertEqual(repr(summary), "<heavy.Summary k=2 total=11 keys=2 slack=2>")
         summary.update_many(["é", "é"])
         # 1 is taken at the first: b has 0 and goes, a has 3, and the first é leaves nothing; the second stays
-        self.assertEqual(summary.items(), [(b"a", 3, 6), ("é".encode(), 1, 4)])
+        self.assertEqual(summary.rows(), [(b"a", 3, 6), ("é".encode(), 1, 4)])
         summary.update_many([])
         self.assertEqual(summary.total, 13)
 
@@ -258,7 +272,7 @@ class Growing(unittest.TestCase):
         same = summary
         summary += other
         self.assertIs(summary, same)
-        self.assertEqual((summary.items(), summary.total), ([(b"a", 9, 9), (b"b", 1, 1)], 10))
+        self.assertEqual((summary.rows(), summary.total), ([(b"a", 9, 9), (b"b", 1, 1)], 10))
         summary += summary
         self.assertEqual(summary.entries(), [(b"a", 18), (b"b", 2)])
         with self.assertRaisesRegex(heavy.HeavyError, "file 2: another k"):
@@ -342,7 +356,7 @@ class Growing(unittest.TestCase):
     def test_memory_is_given_back(self) -> None:
         """The library has a value until its summary goes, or has items that came otherwise; of a file that is refused it has none."""
         for change, stays in (
-            (lambda it: it.update_many(["b"]), 0), (lambda it: it.update_csv(b"b\n"), 0), (lambda it: it.__iadd__(heavy.Summary(k=5)), 0),
+            (lambda it: it.update_many(["b", "c"]), 0), (lambda it: it.update_many(["b"]), 1), (lambda it: it.update_csv(b"b\n"), 0), (lambda it: it.__iadd__(heavy.Summary(k=5)), 0),
             (heavy.Summary.to_bytes, 1), (copy.copy, 1), (pickle.dumps, 1), (lambda it: it.update("b"), 1),
             (lambda it: self.assertRaises(ValueError, it.update, "a", 2**63 - 1), 1),
         ):
@@ -405,6 +419,111 @@ class Growing(unittest.TestCase):
         return summary
 
 
+class Batches(unittest.TestCase):
+    """Items of an iterator, which are added in batches."""
+
+    def in_batches(self, items: int, size: int = 1 << 22) -> object:
+        return mock.patch.multiple(heavy._columns, _BATCH=items, _BATCH_BYTES=size, _BLOCK=max(items // 2, 1))
+
+    def test_all_are_added(self) -> None:
+        """Iterators give the counters that their items have one by one, whatever the batches, and whatever gives the weights."""
+        draw = random.Random(94)
+        for many in (0, 1, 2, 3, 4, 5, 8, 9, 40, 41):
+            items = [(f"k{int(draw.expovariate(0.2))}", draw.randint(1, 9)) for _ in range(many)]
+            keys, weights = [key for key, _ in items], [weight for _, weight in items]
+            for size in (1, 2, 4, 8):
+                for given in (iter(weights), weights, array.array("i", weights), (weight for weight in weights)):
+                    with self.subTest(many=many, size=size), self.in_batches(size):
+                        summary, table = heavy.Summary(k=5), heavy.Table(width=64)
+                        summary.update_many((key for key in keys), given)
+                        self.assertEqual((summary.entries(), summary.total), (counted_by_hand(items, 5), sum(weights)))
+                        table.update_many(map(str.encode, keys), weights)
+                        self.assertEqual(table.total, sum(weights))
+                        summary.update_many(iter(keys))
+                        self.assertEqual(summary.total, sum(weights) + many)
+
+    def test_calls_of_the_library(self) -> None:
+        """The library is called once a batch: at so many items, or so many bytes, and once for what is known at once."""
+        texts, call, sizes = [f"{number:04}" for number in range(20)], heavy._library.calls.heavy_add_by, []
+
+        def counted(*words: object) -> int:
+            sizes.append(words[5])
+            return call(*words)
+
+        with mock.patch.object(heavy._library.calls, "heavy_add_by", counted):
+            for items, size, given, wanted in (
+                (8, 1 << 22, iter(texts), [8, 8, 4]), (8, 16, iter(texts), [5, 5, 5, 5]), (8, 1 << 22, texts, [20]),
+                (20, 1 << 22, iter(texts), [20]), (8, 1 << 22, dict.fromkeys(texts, 1), [20]), (8, 1 << 22, {*texts}, [20]),
+            ):
+                sizes.clear()
+                with self.in_batches(items, size):
+                    heavy.Summary().update_many(given)
+                self.assertEqual(sizes, wanted)
+
+    def test_little_is_held(self) -> None:
+        """No more keys are held than those of two batches, however many come."""
+        held = [0, 0]
+
+        class Text(str):
+            def __init__(self, text: str) -> None:
+                held[0] += 1
+                held[1] = max(held)
+
+            def __del__(self) -> None:
+                held[0] -= 1
+
+        summary = heavy.Summary(k=3)
+        with self.in_batches(10):
+            summary.update_many(Text(f"k{number % 7}") for number in range(5000))
+        self.assertEqual((summary.total, held[0]), (5000, 0))
+        self.assertLessEqual(held[1], 21)
+
+    def test_refusals(self) -> None:
+        """A batch is added whole or not at all, and what is raised says how many items were added before."""
+        def until(many: int, error: type[BaseException], *words: object) -> object:
+            def keys() -> object:
+                for number in range(many):
+                    yield f"k{number % 3}"
+                raise error(*words)
+
+            return keys
+
+        largest = 2**63 - 1
+        for keys, weights, kind, text, added in (
+            (["a"] * 9 + [""], None, ValueError, r"^keys\[9\]: a key must have 1 to 4096 bytes, not 0$", 8),
+            (["a"] * 5 + [5], None, TypeError, r"^keys\[5\]: .*'int'; of a number", 4),
+            (["a"] * 3 + [5], None, TypeError, r"^keys\[3\]: .*'int'; of a number", 0),
+            (["a"] * 12, [1] * 11 + [0], ValueError, r"^weights\[11\]: .* not 0$", 8),
+            (["a"] * 12, [1] * 6 + ["x"] * 6, TypeError, r"^weights\[6\]: .*'str'$", 4),
+            (["a"] * 12, [1] * 11, ValueError, "^there are fewer weights than keys, which are 12$", 8),
+            (["a"] * 12, [1] * 6, ValueError, "^there are fewer weights than keys, which are 8 or more$", 4),
+            (["a"] * 12, itertools.repeat(1), ValueError, "^there are more weights than keys, which are 12$", 8),
+            (["a"] * 10, [1] * 11, ValueError, "^there are more weights than keys, which are 10$", 8),
+            (["a"] * 4, [1] * 5, ValueError, "^there are more weights than keys, which are 4$", 0),
+            ([], [1], ValueError, "^there are more weights than keys, which are 0$", 0),
+            (["a"] * 7, [1] * 6 + [largest - 11], heavy.HeavyError, "^record 7: total too large$", 4),
+            (until(11, UnicodeDecodeError, "utf-8", b"x", 0, 1, "no"), None, UnicodeDecodeError, "^'utf-8' codec .* no$", 8),
+            (until(11, OSError, "unplugged"), None, OSError, "^unplugged$", 8), (until(3, KeyboardInterrupt, "stop"), None, KeyboardInterrupt, "stop", 0),
+            (["a"], {"a": 1}, TypeError, "^weights must be .* mapping", 0), (["a"], 5, TypeError, "^weights must be", 0),
+        ):
+            for file in (heavy.Summary.of_csv(RECORDS, 2), updated(heavy.Table(), ("z", 11))):
+                with self.subTest(text), self.in_batches(4):
+                    with self.assertRaises(kind) as caught:
+                        file.update_many(keys() if callable(keys) else iter(keys), weights)
+                    told = f"the first {added} items of this call are added, and no other"
+                    said, noted = str(caught.exception), getattr(caught.exception, "__notes__", [])
+                    in_text = bool(added) and kind in (TypeError, ValueError)
+                    self.assertEqual(said.endswith(f"; {told}"), in_text)
+                    self.assertRegex(said[: -len(told) - 2] if in_text else said, text)
+                    self.assertEqual(noted, [told] if added and not in_text and hasattr(caught.exception, "add_note") else [])
+                    self.assertEqual((file.total, caught.exception.added), (11 + added, added))
+        summary = heavy.Summary.of_csv(RECORDS, 2)
+        with self.in_batches(4), self.assertRaises(heavy.HeavyError) as caught:
+            summary.update_many(iter("aaaaaab"), [1] * 6 + [largest])
+        again = pickle.loads(pickle.dumps(caught.exception))
+        self.assertEqual((again.added, again.number, heavy.HeavyError.added), (4, 7, None))
+
+
 class Frame:
     """A frame of a library that is not here, as Arrow's tables are."""
 
@@ -440,6 +559,15 @@ def integers() -> list[type]:
 
         kinds += [numpy.int64, numpy.uint8, numpy.uint64, numpy.int16]
     return kinds
+
+
+def reals() -> list[type]:
+    """The kinds of floats that are here: of numpy's the one of 32 bits stands first."""
+    if not has("numpy"):
+        return [float]
+    import numpy
+
+    return [numpy.float32, float, numpy.float64, numpy.float16, numpy.longdouble]
 
 
 class Misuses(unittest.TestCase):
@@ -502,6 +630,67 @@ class Misuses(unittest.TestCase):
                 self.refused(TypeError, rf"^keys\[1\]: {text}", call, ["a", number])
             for call in (self.summary.update, self.summary.ask, self.summary.get, self.summary.__getitem__, self.summary.__contains__):
                 self.refused(TypeError, f"^{text}", call, number)
+
+    def test_weights_of_zero(self) -> None:
+        """With skip_zero an item of weight 0 adds nothing; without it is refused, as is any other wrong weight always."""
+        keys, weights = [*"abzca"], [5, 3, 0, 2, 1]
+        given: list[tuple[object, object]] = [
+            (keys, weights), (tuple(keys), iter(weights)), (keys, array.array("i", weights)), ({"a": 6, "b": 3, "z": 0, "c": 2}, None),
+        ]
+        if has("numpy", "pandas"):
+            import numpy
+            import pandas
+
+            given += [(numpy.array([b"a", b"b", b"z", b"c", b"a"]), numpy.array(weights)), (pandas.Series(keys), pandas.Series(weights))]
+            given += [(pandas.Series(keys * 300), pandas.Series(weights * 300))]
+        for keys_given, weights_given in given:
+            many = 300 if len(keys_given) == 1500 else 1
+            listed = [*weights_given] if weights_given is not None else None
+            summary, table = heavy.Summary(k=5), heavy.Table(width=64)
+            for file in (summary, table):
+                file.update_many(keys_given, listed if not hasattr(weights_given, "dtype") else weights_given, skip_zero=True)
+                self.assertEqual((file.total, file.ask("z")), (11 * many, (0, 0)))
+            rows = [(b"a", 6 * many), (b"b", 3 * many), (b"c", 2 * many)]
+            self.assertEqual(summary.entries(), rows)
+            self.assertEqual(summary.confirm_items(keys_given, listed, skip_zero=True), rows)  # each above a sixth of 11
+            self.assertEqual(summary.condense_items(keys_given, listed, skip_zero=True), b"a,%d\nb,%d\nc,%d\n" % (6 * many, 3 * many, 2 * many))
+            for call in (summary.update_many, table.update_many, summary.confirm_items, summary.condense_items):
+                self.assertRaisesRegex(ValueError, r"^weights\[(2|'z')\]: a weight must be from 1 to 2\^63 - 1, not 0$", call, keys_given, listed)
+        for kind in (iter, list):
+            summary = heavy.Summary.of_csv(RECORDS, 2)
+            summary.update_many(kind(["z", "y"]), [0, 0], skip_zero=True)
+            self.assertEqual(summary, heavy.Summary.of_csv(RECORDS, 2))
+            for wrong, error, text in (
+                ([0, -1], ValueError, r"^weights\[1\]: a weight must be from 0 to 2\^63 - 1, not -1$"), ([0, False], TypeError, r"^weights\[1\]: .*'bool'"),
+                ([0, 2**63 - 11], heavy.HeavyError, "^record 2: total too large$"), ([0], ValueError, "^there are fewer weights"),
+            ):
+                with self.assertRaisesRegex(error, text):
+                    summary.update_many(kind(["z", "y"]), wrong, skip_zero=True)
+            with self.assertRaisesRegex(ValueError, r"^keys\[0\]: a key must have 1 to 4096 bytes, not 0$"):
+                summary.update_many(kind([""]), [0], skip_zero=True)
+            self.assertRaisesRegex(TypeError, "^skip_zero must be True or False, not 'int'$", lambda: summary.update_many(kind("a"), skip_zero=1))
+            self.assertEqual(summary, heavy.Summary.of_csv(RECORDS, 2))
+
+    def test_times_as_keys(self) -> None:
+        day = datetime.date(2026, 11, 30)
+        for time in (day, datetime.datetime(2026, 11, 30, 22), datetime.time(22), datetime.timedelta(5)):
+            text = rf"a key must be bytes or str, not '{type(time).__name__}'; of a date or a time give its text, as str\(key\)$"
+            for call in [*self.many(), self.summary.ask_many]:
+                self.refused(TypeError, rf"^keys\[1\]: {text}", call, ["a", time])
+            for call in (self.summary.update, self.summary.ask, self.summary.__getitem__):
+                self.refused(TypeError, f"^{text}", call, time)
+        if not has("numpy", "pandas"):
+            self.skipTest("numpy and pandas are not here")
+        import numpy
+        import pandas
+
+        for times in (numpy.array([day, day], dtype="M8[D]"), pandas.Series(pandas.to_datetime([day, day])), numpy.array([5], dtype="m8[s]")):
+            for call in self.many():
+                text = rf"^keys\[0\]: a key must be bytes or str, not '{re.escape(str(times.dtype))}'; of dates and times give keys.astype\(str\)$"
+                self.refused(TypeError, text, call, times)
+            summary = heavy.Summary(k=5)
+            summary.update_many(times.astype(str))
+            self.assertEqual(summary.total, len(times))
 
     def test_integers(self) -> None:
         """Integers of any kind are weights, and options too."""
@@ -569,21 +758,26 @@ class Misuses(unittest.TestCase):
         for threshold, wanted in (
             ((6, 11), []), ("6/11", []), (Fraction(6, 11), []), ((1, 2), [b"a"]), ("1/2", [b"a"]), (Fraction(1, 2), [b"a"]),
             (0.5, [b"a"]), (Decimal("0.5"), [b"a"]), (1, []), (1.0, []), ("2/4", [b"a"]), ("3/11", [b"a"]), (None, [b"a"]),
-            ("1/4", [b"a", b"b"]), (0.25, [b"a", b"b"]), (Decimal("0.25"), [b"a", b"b"]),
+            ("1/4", [b"a", b"b"]), (0.25, [b"a", b"b"]), (Decimal("0.25"), [b"a", b"b"]), ("0.25", [b"a", b"b"]), ("25%", [b"a", b"b"]),
+            (".5", [b"a"]), ("0.50", [b"a"]), ("27.2%", [b"a", b"b"]), ("27.3%", [b"a"]), ("100%", []), ("1", []), ("1.", []),
+            *((kind(0.25), [b"a", b"b"]) for kind in reals()), *((kind(1), []) for kind in integers() if kind is not Index),
         ):
             summary = heavy.Summary.of_csv(RECORDS, 3 if threshold is not None else 2)
             with self.subTest(threshold):
                 self.assertEqual([row.key for row in heavy.report(RECORDS, summary.k, threshold)], wanted)
                 self.assertEqual([row.key for row in summary.confirm(RECORDS, threshold)], wanted)
                 self.assertEqual([row.key for row in summary.confirm_items({"a": 6, "b": 3, "c": 2}, None, threshold)], wanted)
-                self.assertEqual([row.key for row in summary.heavy_hitters(threshold)], wanted)
+                self.assertEqual([row.key for row in summary.heavy_hitters(threshold, certain=True)], wanted)
         for threshold, kind, text in (
             (0.1, ValueError, r"^the threshold 0.1 is not exactly 1/10; write '1/10' or Fraction\(1, 10\)$"),
             (0.05, ValueError, r"write '1/20' or Fraction\(1, 20\)$"), (1 / 3, ValueError, r"write '1/3' or"),
             (2**-40 * 1.1, ValueError, "no fraction with a small denominator; write it as 'P/Q'$"),
-            ("0.1", ValueError, "^a threshold is a text 'P/Q', not '0.1'; write '1/10'$"),
-            ("5%", ValueError, "^a threshold is a text 'P/Q', not '5%'; write '1/20'$"), ("a tenth", ValueError, "'P/Q'"),
-            ("", ValueError, "'P/Q'"), ("1/0", heavy.HeavyError, "^threshold must be P/Q"), (0, heavy.HeavyError, "^threshold must"),
+            ("0.1", heavy.HeavyError, "^threshold must be P/Q"), ("5%", heavy.HeavyError, "^threshold must be P/Q"),
+            *((text, ValueError, rf"^a threshold is a text as '1/4', '0.25' or '25%', not {re.escape(repr(text))}$") for text in (
+                "a tenth", "", "%", ".", "1/2%", "-0.5", "0,5", "1e-1", " 0.5", "0.5 ", "1 / 2", "0.5%%", "nan", "1_0%", "٢٥%")),
+            *((kind(0.1), ValueError, r"is not exactly 1/10; write '1/10' or Fraction\(1, 10\)$") for kind in reals()[:2]),
+            *((kind(1 / 3), ValueError, "write '1/3' or") for kind in reals()[:2]), *((kind("nan"), ValueError, "share") for kind in reals()),
+            ("1/0", heavy.HeavyError, "^threshold must be P/Q"), (0, heavy.HeavyError, "^threshold must"),
             (float("nan"), ValueError, "^a threshold is a share, not nan$"), (float("inf"), ValueError, "share"),
             (True, TypeError, "'bool'"), ([1, 2], TypeError, "'list'"), (b"1/2", TypeError, "'bytes'"), ((1,), ValueError, "pair"),
             ((1, 2.0), TypeError, "^q must be an integer, not 'float'$"), ((-1, 2), heavy.HeavyError, "^threshold must be P/Q"),
@@ -595,7 +789,7 @@ class Misuses(unittest.TestCase):
                 lambda: heavy.report(RECORDS, 2, threshold), lambda: heavy.report_csv(RECORDS, 2, threshold, 3),
                 lambda: self.summary.confirm(RECORDS, threshold), lambda: self.summary.confirm_csv(RECORDS, threshold),
                 lambda: self.summary.confirm_items("aaaaaabbbcc" and [*"aaaaaabbbcc"], None, threshold),
-                lambda: self.summary.heavy_hitters(threshold), lambda: self.summary.heavy_hitters(threshold, certain=False),
+                lambda: self.summary.heavy_hitters(threshold, certain=True), lambda: self.summary.heavy_hitters(threshold, certain=False),
             ):
                 with self.subTest(threshold):
                     self.refused(kind, text, call)
@@ -609,21 +803,85 @@ class Mappings(unittest.TestCase):
         summary = heavy.Summary.of_csv(RECORDS, 2)
         for key in ("a", b"a", bytearray(b"a"), memoryview(b"a")):
             self.assertTrue(key in summary)
-            self.assertEqual(summary[key], (b"a", 4, 6))
+            self.assertEqual((summary[key], summary[key].low, summary[key].high), ((4, 6), 4, 6))
             self.assertEqual(summary.get(key), summary[key])
         for key in ("c", b"nobody", "", "x" * 4097, "\ud800"):
             self.assertFalse(key in summary)
             self.assertRaises(KeyError, summary.__getitem__, key)
             self.assertEqual((summary.get(key), summary.get(key, 5)), (None, 5))
         self.assertEqual([*summary], [b"a", b"b"])
-        self.assertEqual((summary.keys(), len(summary)), ([b"a", b"b"], 2))
-        self.assertEqual(summary.items(), [(b"a", 4, 6), (b"b", 1, 3)])
-        self.assertEqual(summary.list(), summary.items())
-        self.assertEqual(dict(summary), {b"a": (b"a", 4, 6), b"b": (b"b", 1, 3)})
-        self.assertEqual(summary.items()[0]._asdict(), {"key": b"a", "low": 4, "high": 6})
+        self.assertEqual(([*summary.keys()], len(summary), len(summary.items()), len(summary.values())), ([b"a", b"b"], 2, 2, 2))
+        self.assertEqual(summary.rows(), [(b"a", 4, 6), (b"b", 1, 3)])
+        self.assertEqual(summary.rows()[0]._asdict(), {"key": b"a", "low": 4, "high": 6})
         for file in (heavy.Summary(b"HHS"), heavy.Summary(heavy.Table().to_bytes())):
-            for call in (lambda: "a" in file, lambda: file["a"], file.keys, file.items, lambda: file.top(1), file.heavy_hitters):
+            for call in (lambda: "a" in file, lambda: file["a"], lambda: [*file], lambda: [*file.items()], file.rows, lambda: file.top(1)):
                 self.assertRaises(heavy.HeavyError, call)
+
+    def test_any_mapping(self) -> None:
+        """A summary does what any mapping does, with a weight's two bounds as values; where one number is wanted, it says so."""
+        for text, a, b in ((False, b"a", b"b"), (True, "a", "b")):
+            summary, wanted = heavy.Summary.of_csv(RECORDS, 2, text=text), {a: (4, 6), b: (1, 3)}
+            self.assertIsInstance(summary, collections.abc.Mapping)
+            for made in (dict(summary), dict(summary.items()), {**summary}, dict(zip(summary.keys(), summary.values())), {} | {**summary}):
+                self.assertEqual((made, [*made]), (wanted, [a, b]))
+            self.assertEqual((summary.keys() & {a, "z"}, summary.keys() == {a, b}), ({a}, True))
+            self.assertEqual([(a, (4, 6)) in summary.items(), (a, 4) in summary.items(), (4, 6) in summary.values(), 4 in summary.values()],
+                             [True, False, True, False])
+            self.assertEqual(collections.Counter(summary).most_common(1), [(a, (4, 6))])
+            self.assertEqual(max(summary.items(), key=lambda item: item[1]), (a, (4, 6)))
+            self.assertEqual(collections.ChainMap({}, summary)[b].high, 3)
+            self.assertEqual(collections.Counter({key: found.low for key, found in summary.items()}), {a: 4, b: 1})
+            again = summary.items(), summary.values(), summary.keys()
+            summary.update("c", 9)
+            # c comes to b's place: of the counters 4, 1 and 9 each loses 1
+            self.assertEqual([*again[0]], [(summary.rows()[0].key, (8, 11)), (a, (3, 6))])
+            self.assertEqual([[*again[1]], [*again[2]]], [[(8, 11), (3, 6)], [*summary]])
+        counted, whole = collections.Counter("ab"), heavy.Summary.of_csv(b"a,5\n", text=True)
+        for call in (
+            lambda: collections.Counter(whole) + counted, lambda: counted + collections.Counter(whole), lambda: counted.update(whole),
+            lambda: collections.Counter(whole) - counted, lambda: counted - collections.Counter(whole), lambda: sum(whole.values()),
+            lambda: counted.subtract(whole), lambda: sum(collections.Counter(whole).values()),
+        ):
+            self.assertRaisesRegex(TypeError, "^an Interval is no number, .*; take its low or its high$", call)
+        for call in (whole.confirm_items, whole.condense_items, lambda given: whole.update_many({**given})):
+            self.assertRaisesRegex(TypeError, r"^weights\['a'\]: .* not 'Interval'; take its low or its high$", call, whole)
+        self.assertEqual(whole.total, 5)
+        self.assertEqual(pickle.loads(pickle.dumps(whole["a"])), heavy.Interval(5, 5))
+
+    def test_iterations_beside_changes(self) -> None:
+        """An iteration has what was there when it began."""
+        summary = heavy.Summary.of_csv(RECORDS, 2, text=True)
+        for begin, wanted in (
+            (iter, ["a", "b"]), (lambda it: iter(it.keys()), ["a", "b"]), (lambda it: iter(it.values()), [(4, 6), (1, 3)]),
+            (lambda it: iter(it.items()), [("a", (4, 6)), ("b", (1, 3))]),
+        ):
+            grown = summary.copy()
+            begun = begin(grown)
+            found = [next(begun)]
+            grown.update("z", 100)
+            self.assertEqual((found + [*begun], "b" in grown), (wanted, False))
+
+    def test_rows_are_made_for_many_questions(self) -> None:
+        """The first question after a change makes no rows of all keys, and those behind it make them once."""
+        entries = heavy._files._entries
+        for make in (lambda it: it.update("a", 5), lambda it: it.update_many(["a", "b"], [5, 1])):
+            summary, found = heavy.Summary.of_csv(RECORDS, 2), []
+            with mock.patch.object(heavy._files, "_entries", lambda saved: found.append(1) or entries(saved)):
+                for number in range(3):
+                    make(summary)
+                    # a has 4 of 6, and gets 5 at a time
+                    self.assertEqual((summary["a"], found), ((9 + 5 * number, 11 + 5 * number), [1] * number))
+                    self.assertEqual(("zz" in summary, "b" in summary, summary.get("c", 7)), (False, True, 7))
+                    self.assertEqual(found, [1] * (number + 1))
+
+    def test_one_item_copies_no_file(self) -> None:
+        """update_many of one item does what update does, and is refused as it is."""
+        for file in (heavy.Summary(k=9), heavy.Table(width=64)):
+            with mock.patch.object(heavy._library.calls, "heavy_add_by", side_effect=AssertionError):
+                for given in ((["a"],), ({"a": 5},), (iter(["b"]), [3]), (("a",), array.array("B", [2]))):
+                    file.update_many(*given)
+                self.assertRaisesRegex(heavy.HeavyError, "^record 1: total too large$", file.update_many, ["a"], [2**63 - 11])
+            self.assertEqual((file.total, file.ask("a")[1], file.ask("b")[1]), (11, 8, 3))
 
     def test_what_was_asked_before(self) -> None:
         """What a summary remembers of its rows goes with the next item, of whatever call."""
@@ -637,8 +895,8 @@ class Mappings(unittest.TestCase):
             self.assertEqual([*before], [*summary])
             change()
             again = heavy.Summary(summary.to_bytes())
-            self.assertEqual((summary.items(), summary.describe(), summary.total), (again.items(), again.describe(), again.total))
-            self.assertNotEqual(summary.items(), before.items())
+            self.assertEqual((summary.rows(), summary.describe(), summary.total), (again.rows(), again.describe(), again.total))
+            self.assertNotEqual(summary.rows(), before.rows())
 
     def test_top(self) -> None:
         summary = heavy.Summary.of_csv(b"b,2\nc,7\na,2\nd,1\n", 9)
@@ -655,7 +913,7 @@ class Mappings(unittest.TestCase):
         for share, certain, possible in (
             (None, "a", "a"), ("4/11", "", "a"), ("5/11", "", "a"), ("6/11", "", ""), ("1/3", "a", "a"), ("1/1", "", ""),
         ):
-            self.assertEqual([row.key.decode() for row in summary.heavy_hitters(share)], [*certain], share)
+            self.assertEqual([row.key.decode() for row in summary.heavy_hitters(share, certain=True)], [*certain], share)
             self.assertEqual([row.key.decode() for row in summary.heavy_hitters(share, certain=False)], [*possible], share)
         draw = random.Random(11)
         for _ in range(200):
@@ -668,10 +926,31 @@ class Mappings(unittest.TestCase):
             summary.update_many([key for key, _ in items], [weight for _, weight in items])
             share = Fraction(draw.randint(1, k + 1), k + 1)
             heavier = {key for key, weight in exact.items() if weight > share * sum(exact.values())}
-            certain = {row.key for row in summary.heavy_hitters(share)}
+            certain = {row.key for row in summary.heavy_hitters(share, certain=True)}
             possible = {row.key for row in summary.heavy_hitters(share, certain=False)}
             self.assertTrue(certain <= heavier <= possible, (items, k, share))
-        self.assertRaisesRegex(TypeError, "^certain must be True or False", lambda: summary.heavy_hitters(certain=1))
+        for given in (1, 0, None, "yes"):
+            text = f"^certain must be True or False, not '{type(given).__name__}'$"
+            self.assertRaisesRegex(TypeError, text, lambda: summary.heavy_hitters(certain=given))
+        for words in ((), ("1/2",)):
+            self.assertRaisesRegex(TypeError, "missing 1 required .*'certain'$", summary.heavy_hitters, *words)
+        self.assertRaises(TypeError, summary.heavy_hitters, "1/2", True)
+
+    def test_truth_values(self) -> None:
+        """numpy's truth values are Python's."""
+        if not has("numpy"):
+            self.skipTest("numpy is not here")
+        import numpy
+
+        # of 11 in all a weighs 4 to 6: more than 4/11 only perhaps
+        summary = heavy.Summary.of_csv(RECORDS, 2)
+        for value, keys in ((True, []), (False, [b"a"])):
+            self.assertEqual([row.key for row in summary.heavy_hitters("4/11", certain=numpy.bool_(value))], keys)
+            layout = heavy.Layout(header=numpy.bool_(value), allow_zero=numpy.bool_(value))
+            self.assertEqual((layout, repr(layout)), (heavy.Layout(header=value, allow_zero=value), repr(heavy.Layout(header=value, allow_zero=value))))
+        self.assertEqual(heavy.report(b"h,w\na,5\nb,0\n", 1, layout=heavy.Layout(header=numpy.True_, allow_zero=numpy.True_)), [(b"a", 5)])
+        self.assertRaisesRegex(TypeError, "^a weight must be an integer, not 'bool_?'$", summary.update, "a", numpy.True_)
+        self.assertRaisesRegex(TypeError, r"^weights\[0\]: a weight must be an integer, not 'bool", summary.update_many, ["a"], [numpy.True_])
 
     def test_sums(self) -> None:
         days = [heavy.Summary.of_csv(b"a,%d\nb\n" % day, 5) for day in range(1, 4)]
@@ -698,7 +977,7 @@ class Mappings(unittest.TestCase):
         for summary in (heavy.Summary.of_csv(RECORDS, 2, text=True), heavy.Summary(k=2)):
             frame = summary.to_frame()
             self.assertEqual([*frame.columns], ["key", "low", "high"])
-            self.assertEqual([*frame.itertuples(index=False, name=None)], summary.items())
+            self.assertEqual([*frame.itertuples(index=False, name=None)], summary.rows())
 
 
 class Rows(unittest.TestCase):
@@ -743,7 +1022,7 @@ class Rows(unittest.TestCase):
         again = heavy.Summary(k=5, text=True)
         again.update_many([*summary], [5, 3, 2])
         again.update(texts[2])
-        self.assertEqual((again.ask(texts[2]), again["é"], texts[2] in again), ((3, 3), ("é", 5, 5), True))
+        self.assertEqual((again.ask(texts[2]), again["é"], texts[2] in again), ((3, 3), (5, 5), True))
         self.assertEqual([row.key for row in heavy.report(records, 9, text=True)], texts)
         summary.text = False
         self.assertEqual([*summary], [text.encode("utf-8", "surrogateescape") for text in texts])
@@ -778,6 +1057,40 @@ class Frames(unittest.TestCase):
         frame = self.pandas.DataFrame({"a": [b"x", b"y", b"x"]})
         self.assertEqual([*heavy.pandas.report(frame, "a", k=2).itertuples(index=False, name=None)], [(b"x", 2)])
 
+    def test_several_columns(self) -> None:
+        """Columns of texts are one key, and come back as columns, whatever is in them."""
+        draw = random.Random(12)
+        texts = ["", "a", "é", 'b"', "c,d", "e\nf", "\r", '"', ",", "g\r\nh"]
+        for rows in (0, 1, 300, 3000):
+            pairs = [(draw.choice(texts), draw.choice(texts[:4]), draw.randint(1, 9)) for _ in range(rows)]
+            frame = self.pandas.DataFrame(pairs, columns=["host", "path", "bytes"]).astype({"bytes": "int64"})
+            for kind in (object, "string", "category"):
+                given = frame.astype({"host": kind, "path": object})
+                for weight, k, threshold in (("bytes", 50, None), (None, 20, None), ("bytes", 30, "1/20")):
+                    sums: collections.Counter[tuple[str, str]] = collections.Counter()
+                    for host, path, size in pairs:
+                        sums[host, path] += size if weight else 1
+                    least = sum(sums.values()) * Fraction(threshold or f"1/{k + 1}")
+                    wanted = {(host, path, all) for (host, path), all in sums.items() if all > least}
+                    found = heavy.pandas.report(given, ["host", "path"], weight, k, threshold)
+                    self.assertEqual([*found.columns], ["host", "path", weight or "weight"])
+                    told = [*found.itertuples(index=False, name=None)]
+                    self.assertEqual((len(told), {*told}), (len(wanted), wanted))
+                    self.assertEqual([row[2] for row in told], sorted((row[2] for row in told), reverse=True))
+        three = self.pandas.DataFrame([("a", "b", "c")] * 2 + [("a", "b", "d")], columns=[*"xyz"])
+        self.assertEqual(heavy.pandas.report(three, [*"xyz"], k=2).values.tolist(), [["a", "b", "c", 2]])
+        self.assertEqual(heavy.pandas.report(three, ["z"], k=2).values.tolist(), [["c", 2]])
+
+    def test_a_key_called_weight(self) -> None:
+        """The column of counts has another name than those of the key."""
+        frame = self.pandas.DataFrame({"weight": ["x", "x", "y"], "count": ["u", "u", "v"], "n": [1, 2, 9]})
+        for key, weight, columns, rows in (
+            ("weight", None, ["weight", "count"], [["x", 2]]), ("count", None, ["count", "weight"], [["u", 2]]),
+            (["weight", "count"], None, ["weight", "count", "total"], [["x", "u", 2]]), ("weight", "n", ["weight", "n"], [["y", 9]]),
+        ):
+            found = heavy.pandas.report(frame, key, weight, 1)
+            self.assertEqual(([*found.columns], found.values.tolist()), (columns, rows))
+
     def test_refusals(self) -> None:
         frame = self.pandas.DataFrame({"a": ["x", "y"], "b": [1, 2], "c": [0.5, 1], "d": [1, 0], "e": ["x", None]})
         for words, kind, text in (
@@ -787,6 +1100,10 @@ class Frames(unittest.TestCase):
             ((frame, "a", "b", 0), heavy.HeavyError, "^k must"), ((frame, "a", "b", 1, "1/3"), heavy.HeavyError, "^threshold must"),
             ((frame, "a", "b", 1, 0.7), ValueError, "write '7/10'"), (({"a": ["x"]}, "a"), TypeError, "DataFrame of pandas .*'dict'$"),
             ((self.pandas.DataFrame([[1, 2]], columns=["a", "a"]), "a"), KeyError, "more than one column 'a'"),
+            ((frame, []), ValueError, r"^key must name a column, not \[\]$"), ((frame, ["a", "a"]), ValueError, "^key must name different columns"),
+            ((frame, ["a", "z"]), KeyError, "no column 'z'"), ((frame, ["a", "e"]), TypeError, r"^keys\[1\]: column 'e' must have texts, and has no value"),
+            ((frame, ["a", "b"]), TypeError, r"^keys\[0\]: column 'b' must have texts, not 'int'; of numbers give their texts"),
+            ((self.pandas.DataFrame({"a": ["x", "x" * 4095], "b": ["", "y"]}), ["a", "b"]), ValueError, r"^keys\[1\]: .* not 4097$"),
         ):
             self.assertRaisesRegex(kind, text, heavy.pandas.report, *words)
 
@@ -847,7 +1164,7 @@ class Collections(unittest.TestCase):
                     self.assertEqual(found, self.rows(k, Fraction(threshold) if threshold else None))
                 summary = heavy.dask.summary(collection, *words, k=1000)
                 self.assertEqual(summary.total, sum(self.exact.values()))
-                self.assertEqual({row.key: row.low for row in summary.items()}, {
+                self.assertEqual({row.key: row.low for row in summary.rows()}, {
                     key if number != 8 else key.encode(): weight for key, weight in self.exact.items()
                 })
 
@@ -1000,7 +1317,7 @@ class Sequence:
         """What the summary and the table say is right for the exact weights."""
         total = sum(self.exact.values())
         assert self.summary.total == self.table.total == total, "totals"
-        slack, rows = self.summary.slack, self.summary.items()
+        slack, rows = self.summary.slack, self.summary.rows()
         assert slack * (self.k + 1) <= total and len(rows) == len(self.summary) <= self.k, "slack"
         assert rows == sorted(rows, key=lambda row: (-row.low, row.key.encode())), "order"
         assert slack == (total - sum(row.low for row in rows)) // (self.k + 1), "the slack is what the counters lack"
@@ -1039,17 +1356,365 @@ class Threads(unittest.TestCase):
         self.assertEqual(failed, [])
 
 
-    def test_one_value(self) -> None:
-        """Updates of one summary by four threads at once are made one after the other, each whole."""
-        summary = updated(heavy.Summary(k=9), ("0", 1))
-        threads = [
-            threading.Thread(target=lambda: updated(summary, *[(str(number), 1) for number in range(9)] * 500)) for _ in range(4)
-        ]
+def at_once(*works: object) -> list[BaseException]:
+    """What these raise, each of them run by a thread of its own, where Python changes threads as often as it can."""
+    raised: list[BaseException] = []
+    begun, interval = threading.Barrier(len(works)), sys.getswitchinterval()
+
+    def run(work: object) -> None:
+        begun.wait()
+        try:
+            work()
+        except BaseException as error:
+            raised.append(error)
+
+    threads = [threading.Thread(target=run, args=(work,)) for work in works]
+    sys.setswitchinterval(1e-6)
+    try:
         for thread in threads:
             thread.start()
         for thread in threads:
             thread.join()
-        self.assertEqual(sorted(summary.entries()), [(b"0", 2001), *[(b"%d" % number, 2000) for number in range(1, 9)]])
+    finally:
+        sys.setswitchinterval(interval)
+    return raised
+
+
+def times(many: int, call: object) -> object:
+    """What makes a call so often."""
+    return lambda: [call() for _ in range(many)]
+
+
+class OneObject(unittest.TestCase):
+    """One summary or table that eight threads use at once."""
+
+    # what adds 5 of a and 3 of b
+    CHANGES = {
+        "update": lambda it, other: updated(it, ("a", 5), ("b", 3)),
+        "update_many": lambda it, other: it.update_many(["a", "b", "a"], [1, 3, 4]),
+        "update_many of a mapping": lambda it, other: it.update_many({"a": 5, "b": 3}),
+        "update_many of an iterator": lambda it, other: it.update_many(iter(["a", "b"]), iter([5, 3])),
+        "update_csv": lambda it, other: it.update_csv(b"a,5\nb,3\n"),
+        "update_csv of a file": lambda it, other: it.update_csv(io.BytesIO(b"a,5\nb,3\n")),
+        "+=": lambda it, other: it.__iadd__(other),
+        "|=": lambda it, other: it.__ior__(other),
+    }
+
+    def made(self) -> list[tuple[heavy.Summary | heavy.Table, heavy.Summary | heavy.Table]]:
+        """A summary and a table, each with another that has 5 of a and 3 of b."""
+        return [
+            (heavy.Summary(k=5), heavy.Summary.of_csv(b"a,5\nb,3\n", 5)),
+            (heavy.Table(width=64), heavy.Table.of_csv(b"a,5\nb,3\n", 64)),
+        ]
+
+    def test_changes(self) -> None:
+        """No change is lost, whatever call eight threads make."""
+        for name, change in self.CHANGES.items():
+            for file, other in self.made():
+                with self.subTest(name, file=file):
+                    works = [times(50, lambda: change(file, other))] * 8
+                    self.assertEqual(at_once(*works), [])
+                    self.assertEqual((file.total, file.ask("a")[1], file.ask("b")[1]), (3200, 2000, 1200))
+
+    def test_other_changes(self) -> None:
+        """No change is lost where eight threads make eight calls, and other threads read."""
+        for file, other in self.made():
+            works = [times(100, functools.partial(change, file, other)) for change in self.CHANGES.values()]
+            reads = [times(100, file.to_bytes), times(100, lambda: file.ask("a")), times(100, file.copy)]
+            self.assertEqual((len(works), at_once(*works, *reads)), (8, []))
+            self.assertEqual((file.total, file.ask("a")[1], file.ask("b")[1]), (6400, 4000, 2400))
+
+    def test_random_changes(self) -> None:
+        """Random changes by eight threads: the totals are exact, and each weight is within its bounds."""
+        for seed in range(20):
+            summary, table = heavy.Summary(k=10), heavy.Table(width=8, depth=2)
+            exact = [collections.Counter() for _ in range(8)]
+
+            def work(number: int) -> None:
+                draw = random.Random(f"{seed} {number}")
+                for _ in range(20):
+                    counted = collections.Counter(f"k{int(draw.expovariate(0.1))}" for _ in range(draw.randrange(1, 30)))
+                    exact[number].update(counted)
+                    self.random_change(draw, summary, table, counted)
+
+            with self.subTest(seed):
+                self.assertEqual(at_once(*(functools.partial(work, number) for number in range(8))), [])
+                whole = sum(exact, collections.Counter())
+                self.assertEqual((summary.total, table.total), (sum(whole.values()),) * 2)
+                for key, weight in whole.items():
+                    low, high = summary.ask(key)
+                    self.assertTrue(low <= weight <= high and table.estimate(key) >= weight, key)
+
+    def random_change(
+        self, draw: random.Random, summary: heavy.Summary, table: heavy.Table, counted: collections.Counter[str]
+    ) -> None:
+        """Adds what was counted to both, in one of the ways."""
+        way = draw.randrange(4)
+        for file, other in ((summary, heavy.Summary(k=10)), (table, heavy.Table(width=8, depth=2))):
+            if way == 0:
+                updated(file, *counted.items())
+            elif way == 1:
+                file.update_many(counted)
+            elif way == 2:
+                file.update_csv("".join(f"{key},{weight}\n" for key, weight in counted.items()).encode())
+            else:
+                other.update_many(counted)
+                file += other
+
+    def test_two_objects(self) -> None:
+        """`a += b` beside `b += a` gives what one after the other gives, in some order, and no two wait for each other."""
+        for make in (lambda: heavy.Summary.of_csv(b"a\n", 3), lambda: heavy.Table.of_csv(b"a\n", 8, 2)):
+            for _ in range(5):
+                first, second = make(), make()
+                works = [times(5, lambda: first.__iadd__(second))] * 4 + [times(5, lambda: second.__iadd__(first))] * 4
+                self.assertEqual(at_once(*works), [])
+                # the larger total is that of the last change: taken back step by step, both begin with 1
+                one, two, taken = first.total, second.total, [0, 0]
+                while one != two:
+                    taken[one < two] += 1
+                    one, two = (one - two, two) if one > two else (one, two - one)
+                self.assertEqual((one, two, taken), (1, 1, [20, 20]))
+
+    def test_itself(self) -> None:
+        """`a += a` doubles it, by one thread and by eight."""
+        for file in (heavy.Summary.of_csv(b"a,3\n", 3), heavy.Table.of_csv(b"a,3\n", 8, 2)):
+            file += file
+            self.assertEqual((file.total, heavy.merge(file, file).total, (file + file).total, file == file), (6, 12, 12, True))
+            self.assertEqual(at_once(*[times(4, lambda: file.__iadd__(file))] * 8), [])
+            self.assertEqual((file.total, file.ask("a")[1]), (6 * 2**32, 6 * 2**32))
+
+    def test_two_at_one_time(self) -> None:
+        """A merge has its files as they are at one time."""
+        twice = {key: heavy.Summary.of_csv(f"{key},2\n".encode(), 3) for key in "ab"}
+
+        def ahead(file: heavy.Summary) -> int:
+            return file.ask("a")[0] - file.ask("b")[0]
+
+        for name, change in {
+            "update": lambda it, key: it.update(key, 2), "update_many": lambda it, key: it.update_many([key, key]),
+            "update_many of one": lambda it, key: it.update_many([key], [2]), "update_csv": lambda it, key: it.update_csv(f"{key},2\n".encode()),
+            "+=": lambda it, key: it.__iadd__(twice[key]),
+        }.items():
+            first, second, found = heavy.Summary(k=3), heavy.Summary(k=3), set()
+            add = [times(1000, lambda: (change(first, "a"), change(second, "b")))]
+            reads = [lambda: found.add(ahead(heavy.merge(second, first))), lambda: found.add(ahead(first + second))] * 2
+            with self.subTest(name):
+                self.assertEqual(at_once(*add, *(times(400, read) for read in reads)), [])
+                # a is added first, so that it is ahead by what one call adds or by nothing
+                self.assertTrue(found <= {0, 2}, found)
+                self.assertEqual((ahead(first + second), first.total, second.total), (0, 2000, 2000))
+
+    def test_values_are_set_under_the_mutex(self) -> None:
+        """A value is set while no other thread reads several objects at one time: each read holds their mutexes."""
+        for kind in (heavy.Summary, heavy.Table):
+            set_: list[bool] = []
+
+            class Watched(kind):
+                def __setattr__(self, name: str, value: object) -> None:
+                    if name == "_value" and "_lock" in self.__dict__:
+                        thread = threading.Thread(target=self.look)
+                        thread.start()
+                        thread.join()
+                    super().__setattr__(name, value)
+
+                def look(self) -> None:
+                    set_.append(self._lock.mutex.acquire(blocking=False))
+                    if set_[-1]:
+                        self._lock.mutex.release()
+
+            other = Watched(kind.of_csv(b"a,5\nb,3\n").to_bytes())
+            for name, change in self.CHANGES.items():
+                set_.clear()
+                with self.subTest(name):
+                    change(Watched(), other)
+                    self.assertEqual((len(set_) > 0, any(set_)), (True, False))
+
+    READS = {
+        "rows": lambda it: {row.key: row.low for row in it.rows()},
+        "items": lambda it: {key: found.low for key, found in it.items()},
+        "entries": lambda it: dict(it.entries()),
+        "top": lambda it: {row.key: row.low for row in it.top(3)},
+        "list_csv": lambda it: {row.key: row.weight for row in heavy._records.rows_of(re.sub(b",[0-9]+\n", b"\n", it.list_csv()), True)},
+        "ask_many": lambda it: dict(zip("abc", (low for low, _ in it.ask_many([*"abc"])))),
+        "to_bytes": lambda it: dict(heavy.Summary(it.to_bytes(), text=True).entries()),
+        "copy": lambda it: dict(it.copy().entries()),
+        "deepcopy": lambda it: dict(copy.deepcopy(it).entries()),
+        "pickle": lambda it: dict(pickle.loads(pickle.dumps(it)).entries()),
+        "sum": lambda it: dict(sum([it]).entries()),
+        "merge": lambda it: dict(heavy.merge(it).entries()),
+    }
+
+    def test_reads(self) -> None:
+        """Each read finds what was there between two changes: as many of a as of b, which are added together."""
+        for name, read in self.READS.items():
+            summary = heavy.Summary(k=5, text=True)
+            summary.update_many({"a": 1, "b": 1, "c": 1})
+            wrong: list[object] = []
+
+            def look() -> None:
+                found = read(summary)
+                if found["a"] != found["b"] or not 1 <= found["c"] <= 301:
+                    wrong.append(found)
+
+            works = [times(50, lambda: summary.update_many({"a": 1, "b": 1}))] * 3 + [times(100, lambda: summary.update("c"))] * 3
+            with self.subTest(name):
+                self.assertEqual((at_once(*works, *[times(50, look)] * 2), wrong), ([], []))
+                self.assertEqual(read(summary), {"a": 151, "b": 151, "c": 301})
+
+    def test_numbers_that_belong_together(self) -> None:
+        """What a read says of a summary in several numbers is of one time."""
+        summary, table = heavy.Summary(k=5, text=True), heavy.Table(width=8)
+        for file in (summary, table):
+            file.update_many({"a": 1, "b": 1})
+        wrong: list[object] = []
+
+        def look() -> None:
+            told, cells = summary.describe(), repr(table)
+            if told.counters != told.total or told.total % 2 or told.keys != 2 or not re.fullmatch(r".* total=\d*[02468]>", cells):
+                wrong.append((told, cells))
+            # neither is above a half; one would be, were the total older than the rows
+            if summary.heavy_hitters("1/2", certain=True) or len(summary.heavy_hitters("1/4", certain=False)) != 2:
+                wrong.append(summary.rows())
+            if re.fullmatch(r"<heavy.Summary k=5 total=\d*[02468] keys=2 slack=0>", repr(summary)) is None:
+                wrong.append(repr(summary))
+
+        works = [times(100, lambda: [file.update_many({"a": 1, "b": 1}) for file in (summary, table)])] * 4
+        self.assertEqual((at_once(*works, *[times(100, look)] * 4), wrong), ([], []))
+        self.assertEqual((summary.total, table.total), (802, 802))
+
+
+class Asking:
+    """A file of records that makes a call each time it is read."""
+
+    def __init__(self, call: object) -> None:
+        self.call, self.held = call, io.BytesIO(b"a,5\nb,3\n")
+
+    def read(self, size: int) -> bytes:
+        self.call()
+        return self.held.read(size)
+
+
+class LongChanges(unittest.TestCase):
+    """A change that reads a file while other calls come."""
+
+    def test_reads_go_on(self) -> None:
+        """While a file is read other threads find what was there before, and a copy may be changed."""
+        for file in (heavy.Summary.of_csv(b"z,9\n", 5), updated(heavy.Summary(k=5), ("z", 9)), heavy.Table.of_csv(b"z,9\n", 64)):
+            found: list[object] = []
+
+            def look() -> None:
+                found.append((file.total, file.ask("a")[1], updated(file.copy(), ("z", 1)).total, (file + file).total, file == file))
+
+            def ask() -> None:
+                thread = threading.Thread(target=look)
+                thread.start()
+                thread.join()
+                look()
+
+            file.update_csv(Asking(ask))
+            self.assertGreater(len(found), 3)
+            self.assertEqual(set(found), {(9, 0, 10, 18, True)})
+            self.assertEqual((file.total, file.ask("a")[1], file.ask("b")[1]), (17, 5, 3))
+
+    def test_other_changes_wait(self) -> None:
+        """A change by another thread is made once the file was read, and is not lost."""
+        for make in (lambda: heavy.Summary(k=5), lambda: heavy.Table(width=64)):
+            for change, added in (
+                (lambda it: it.update("z"), 1), (lambda it: it.update_many(["z", "z"]), 2), (lambda it: it.update_csv(b"z,7\n"), 7),
+                (lambda it: it.__iadd__(updated(make(), ("z", 4))), 4), (lambda it: updated(make(), ("z", 4)).__iadd__(it), 0),
+            ):
+                file, threads = make(), []
+
+                def begin() -> None:
+                    if not threads:
+                        threads.append(threading.Thread(target=change, args=(file,)))
+                        threads[0].start()
+
+                file.update_csv(Asking(begin))
+                threads[0].join()
+                self.assertEqual((file.total, file.ask("z")[1], file.ask("a")[1]), (8 + added, added, 5))
+
+    def test_a_change_within_one(self) -> None:
+        """A change within another of the same object, by one thread, is refused, and the object is as it was and can be changed."""
+        for make in (lambda: heavy.Summary(k=5), lambda: heavy.Table(width=64)):
+            for change in (
+                lambda it: it.update("z"), lambda it: it.update_many(["z"]), lambda it: it.update_csv(b"z\n"),
+                lambda it: it.__iadd__(make()), lambda it: make().__iadd__(it), lambda it: it.__iadd__(it),
+            ):
+                file = updated(make(), ("y", 2))
+                text = "^this thread is changing the object already; change it again once that call is done$"
+                self.assertRaisesRegex(RuntimeError, text, file.update_csv, Asking(lambda: change(file)))
+                self.assertEqual((file.total, updated(file, ("y", 3)).total), (2, 5))
+                call = heavy._library.calls.heavy_update
+                with mock.patch.object(heavy._library.calls, "heavy_update", lambda *words: [change(file), call(*words)][1]):
+                    self.assertRaisesRegex(RuntimeError, text, file.update, "y")
+                self.assertEqual((file.total, updated(file, ("y", 3)).total), (5, 8))
+
+    def test_interrupts(self) -> None:
+        """What a file's read raises leaves the object as it was, for other calls to change."""
+        def interrupt() -> None:
+            raise KeyboardInterrupt
+
+        for file in (updated(heavy.Summary(k=5), ("y", 2)), updated(heavy.Table(width=64), ("y", 2))):
+            for call in (lambda: file.update_csv(Asking(interrupt)), lambda: file.update_many(map(lambda key: interrupt(), "ab"))):
+                self.assertRaises(KeyboardInterrupt, call)
+            self.assertEqual(at_once(*[lambda: file.update("y")] * 8), [])
+            self.assertEqual((file.total, file.ask("y")[1]), (10, 10))
+
+    def test_items_may_ask(self) -> None:
+        """Keys and weights are taken before anything is changed, so an iterable of them may use the same object."""
+        for file in (heavy.Summary(k=5), heavy.Table(width=64)):
+            def keys() -> object:
+                for key in "ab":
+                    file.update("z")
+                    yield f"{key}{file.total}"
+
+            file.update_many(keys(), (file.total for _ in "ab"))
+            # z twice, and then a1 and b2, each of a weight that is the total then
+            self.assertEqual([file.ask(key)[1] for key in ("z", "a1", "b2")], [2, 2, 2])
+            self.assertEqual(file.total, 6)
+
+    def test_columns_beside_others(self) -> None:
+        """Equal keys of a column are one item only where no counter is lowered, also where others take the room meanwhile."""
+        if not has("pandas"):
+            self.skipTest("pandas is not here")
+        import pandas
+
+        texts = [*"abc"] * 400 + ["a"] * 100
+        column = pandas.Series(texts, dtype=object)
+        for others, room in ((0, 3), (1, 3), (2, 3), (3, 3)):
+            summary, items_of = heavy.Summary(k=3), heavy._files.items_of
+
+            def taken(*words: object) -> object:
+                found = items_of(*words)
+                with mock.patch.object(heavy._files, "items_of", items_of):
+                    if summary.total < others:
+                        summary.update_many([f"x{number}" for number in range(others)])
+                return found
+
+            with mock.patch.object(heavy._files, "items_of", taken):
+                summary.update_many(column)
+            items = [*((f"x{number}", 1) for number in range(others)), *((text, 1) for text in texts)]
+            self.assertEqual(summary.entries(), counted_by_hand(items, 3))
+
+    def test_saves(self) -> None:
+        """Eight threads save and load one path: each load is whole, and the rights of the file are those that the process gives."""
+        with tempfile.TemporaryDirectory() as room:
+            path = Path(room, "saved")
+            summary = heavy.Summary.of_csv(RECORDS, 2)
+            summary.save(path)
+            found: list[object] = []
+            works = [times(30, lambda: summary.save(path))] * 4 + [times(30, lambda: found.append(heavy.Summary.load(path).entries()))] * 4
+            self.assertEqual(at_once(*works), [])
+            self.assertEqual((len(found), [rows for rows in found if rows != [(b"a", 4), (b"b", 1)]]), (120, []))
+            self.assertEqual(os.listdir(room), ["saved"])
+            before = os.umask(0o027)
+            try:
+                with mock.patch.object(os, "umask", side_effect=AssertionError):  # it is one for all threads
+                    summary.save(path)
+            finally:
+                os.umask(before)
+            self.assertEqual(path.stat().st_mode & 0o777, 0o640)
 
 
 class GrowingTables(unittest.TestCase):
@@ -1100,6 +1765,128 @@ class GrowingTables(unittest.TestCase):
             self.assertEqual(table, heavy.Table.of_csv(records, 8, 2, seed))
             for key, weight in exact.items():
                 self.assertGreaterEqual(table.estimate(key), weight)
+
+
+class Sizes(unittest.TestCase):
+    """Summaries and tables by the error that is wanted, windows, and what a notebook shows."""
+
+    def test_summaries(self) -> None:
+        """k is the least whose k + 1 times the error is at least the whole, so that no slack is above that share of the total."""
+        for error, k in (
+            ("1/1000", 999), ("0.1%", 999), ("0.001", 999), ((1, 1000), 999), (Fraction(1, 1000), 999), (Decimal("0.001"), 999),
+            ("1/3", 2), ("2/5", 2), ("3/7", 2), (0.5, 1), (0.25, 3), (1, 1), ("1/1", 1), ("3/4", 1), ("1/65536", 65535),
+            # a float below a third wants one counter more, since it is just that number
+            (1 / 3, 3), *((kind(0.25), 3) for kind in reals()),
+        ):
+            made = heavy.Summary.for_error(error, text=True)
+            self.assertEqual((made.k, made.total, made.text, heavy.Summary.for_error(error).text), (k, 0, True, False), error)
+        draw = random.Random(5)
+        for error in ("1/7", "3/20", "1/50"):
+            summary = heavy.Summary.for_error(error)
+            summary.update_many(f"k{int(draw.expovariate(0.02))}" for _ in range(3000))
+            self.assertTrue(0 < summary.slack <= Fraction(error) * 3000, error)
+        self.assertRaisesRegex(ValueError, "^an error of 1/65537 wants a k of 65536, and the largest is 65535$", heavy.Summary.for_error, "1/65537")
+
+    def test_tables(self) -> None:
+        # e is 2.71828, and of the logarithms that of 10 is 2.30259, of 100 4.60517 and of e 1
+        for error, chance, width, depth in (
+            ("1/100", "1/100", 272, 5), ("1%", "10%", 272, 3), (0.5, 0.5, 6, 1), (1, 1, 3, 1), ("1/10", "1/1000000", 28, 14),
+            ("1/24109", "1/3", 65536, 2), (Decimal("0.01"), Fraction(1, 100), 272, 5),
+        ):
+            made = heavy.Table.for_error(error, chance, seed=7)
+            self.assertEqual((made.width, made.depth, made), (width, depth, heavy.Table(width=width, depth=depth, seed=7)))
+        for width, error in ((1, 2.718281828), (1000, 0.002718281828), (65536, 0.00004147769)):
+            self.assertAlmostEqual(heavy.Table(width=width).error, error, 9)
+        for words, text in (
+            (("1/24110", "1/3"), "^an error of 1/24110 wants a width of 65538, and the largest is 65536$"),
+            (("1/10", "1/10000000"), "^a chance of 1/10000000 wants a depth of 17, and the largest is 16$"),
+        ):
+            self.assertRaisesRegex(ValueError, text, heavy.Table.for_error, *words)
+
+    def test_estimates(self) -> None:
+        """Of the estimates of 3,000 keys a few are too high at the most, as the textbook has it."""
+        draw = random.Random(15)
+        exact = collections.Counter(f"k{int(draw.expovariate(0.002))}" for _ in range(20_000))
+        table = heavy.Table.for_error("1/100", "1/100", seed=3)
+        table.update_many(exact)
+        above = [key for key, weight in exact.items() if table.estimate(key) - weight > 200]
+        self.assertTrue(len(exact) > 1000 and len(above) <= len(exact) / 100, above)
+
+    def test_refusals(self) -> None:
+        for share in (0, 0.0, -0.5, 1.5, 2, "2/1", "0/5", "0", (0, 5), (2, 1), (1, 0), "1/0", float("nan"), float("inf"), None, True, [1, 2], b"1/2"):
+            for call, name in (
+                (heavy.Summary.for_error, "error"), (lambda it: heavy.Table.for_error(it, "1/2"), "error"),
+                (lambda it: heavy.Table.for_error("1/2", it), "chance"),
+            ):
+                text = f"^{name} must be a share above 0 and at most 1, as '1/1000', not {re.escape(repr(share))}$"
+                self.assertRaisesRegex(ValueError, text, call, share)
+        self.assertRaisesRegex(ValueError, "^the error is a text as '1/4', '0.25' or '25%', not 'a tenth'$", heavy.Summary.for_error, "a tenth")
+
+    def test_windows(self) -> None:
+        """A window has the items of its last buckets, beside a list of Counters."""
+        draw = random.Random(60)
+        for buckets in (1, 2, 5):
+            window, counted = heavy.Window(k=30, buckets=buckets, text=True), [collections.Counter()]
+            for _ in range(200):
+                keys = [f"k{draw.randrange(20)}" for _ in range(draw.randrange(9))]
+                if draw.random() < 0.3:
+                    window.roll()
+                    counted = [*counted, collections.Counter()][-buckets:]
+                window.update_many(draw.choice([keys, iter(keys)]))
+                window.update("k0", 3)
+                counted[-1].update([*keys, "k0", "k0", "k0"])
+                whole = sum(counted, collections.Counter())
+                self.assertEqual({key: found.low for key, found in window.merged().items()}, whole)
+                self.assertEqual((window.merged().total, len(window), window.buckets, window.k), (sum(whole.values()), len(counted), buckets, 30))
+        window.update_many(["z", "y"], [5, 0], skip_zero=True)
+        again = pickle.loads(pickle.dumps(window))
+        for made in (again, copy.copy(window), copy.deepcopy(window)):
+            made.update("z")
+            made.roll()
+            self.assertEqual((window.merged().ask("z"), made.merged().ask("z")), ((5, 5), (6, 6)))
+        self.assertEqual(repr(heavy.Window(k=3, buckets=2)), "<heavy.Window k=3 buckets=2 total=0>")
+        self.assertTrue(window)
+        for words, kind, text in (
+            ({"buckets": 0}, ValueError, "^buckets must be at least 1, not 0$"), ({"buckets": 2.0}, TypeError, "^buckets must be an integer"),
+            ({"k": 0}, heavy.HeavyError, "^k must be 1 to 65535$"),
+        ):
+            self.assertRaisesRegex(kind, text, lambda: heavy.Window(**words))
+
+    def test_the_bound_of_windows(self) -> None:
+        """The slack of what is merged is at most the total divided by k + 1, and each weight is within its bounds."""
+        draw, window, counted = random.Random(61), heavy.Window(k=9, buckets=4, text=True), [collections.Counter()]
+        for _ in range(60):
+            keys = [f"k{int(draw.expovariate(0.05))}" for _ in range(100)]
+            window.roll()
+            window.update_many(keys)
+            counted = [*counted, collections.Counter(keys)][-4:]
+            whole, merged = sum(counted, collections.Counter()), window.merged()
+            self.assertTrue(0 < merged.slack * 10 <= sum(whole.values()) == merged.total)
+            for key, weight in whole.items():
+                low, high = merged.ask(key)
+                self.assertTrue(low <= weight <= high)
+
+    def test_windows_of_threads(self) -> None:
+        """No item is lost where eight threads add to a window, some roll it and others ask."""
+        window = heavy.Window(k=9, buckets=1000)
+        works = [times(50, lambda: window.update("a", 2))] * 4 + [times(50, lambda: window.update_many(["a", "b"]))] * 4
+        self.assertEqual(at_once(*works, *[times(20, window.roll)] * 3, times(20, window.merged)), [])
+        self.assertEqual((window.merged().ask("a"), window.merged().ask("b"), len(window)), ((600, 600), (200, 200), 61))
+
+    def test_notebooks(self) -> None:
+        head = "<thead><tr><th>key</th><th>low</th><th>high</th></tr></thead>"
+        for given, text, wanted in (
+            (b"<b>&,5\n\xff,3\n", False,
+             f"<table><caption>heavy.Summary k=100 total=8 keys=2 slack=0</caption>{head}<tbody><tr><td>&lt;b&gt;&amp;</td><td>5</td><td>5</td></tr>"
+             "<tr><td>\\xff</td><td>3</td><td>3</td></tr></tbody></table>"),
+            ("é,1\n".encode(), True, f"<table><caption>heavy.Summary k=100 total=1 keys=1 slack=0</caption>{head}"
+             "<tbody><tr><td>é</td><td>1</td><td>1</td></tr></tbody></table>"),
+        ):
+            self.assertEqual(heavy.Summary.of_csv(given, text=text)._repr_html_(), wanted)
+        shown = heavy.Summary.of_csv(b"".join(b"k%d,%d\n" % (number, 100 - number) for number in range(21)))._repr_html_()
+        self.assertIn("keys=21, the first 20 of them slack=0</caption>", shown)
+        self.assertEqual((shown.count("<tr>"), "<td>k19</td>" in shown, "<td>k20</td>" in shown), (21, True, False))
+        self.assertEqual(heavy.Summary(b"HHS")._repr_html_(), "<p>&lt;heavy.Summary file 1: truncated&gt;</p>")
 
 
 class Arrow:
@@ -1544,7 +2331,7 @@ class Reports(unittest.TestCase):
         for k in (1, 3, 50):
             text = b"".join(b"k%d,%d\n" % (draw.randrange(40), draw.randrange(1, 9)) for _ in range(300))
             summary = heavy.Summary.of_csv(text, k)
-            rows = summary.items()
+            rows = summary.rows()
             self.assertEqual(sorted((key, low) for key, low, _ in rows), sorted(summary.entries()))
             self.assertEqual([(low, high) for _, low, high in rows], summary.ask_many([key for key, _, _ in rows]))
 
@@ -1625,7 +2412,7 @@ class Layouts(unittest.TestCase):
         records = b"5,x,a\n.3,y,b\n1.5,x,a\n2,x,c\n"
         self.assertEqual(heavy.report(records, 2, layout=layout, text=True), [("a,x", Decimal("6.5"))])
         # a summary counts tenths
-        self.assertEqual(heavy.Summary.of_csv(records, 9, layout=layout).items()[0], (b"a,x", 65, 65))
+        self.assertEqual(heavy.Summary.of_csv(records, 9, layout=layout).rows()[0], (b"a,x", 65, 65))
 
     def test_refusals(self) -> None:
         for text, options, words in (
@@ -1647,12 +2434,13 @@ class Layouts(unittest.TestCase):
                     with self.assertRaises(heavy.HeavyError) as caught:
                         call()
                     told = (f"heavy: {caught.exception}\n".encode(), caught.exception.status)
-                    self.assertEqual(told, (ran.stderr.splitlines(keepends=True)[0], ran.returncode))
+                    line = ran.stderr.splitlines(keepends=True)[0].replace(b"--header", b"header=True")
+                    self.assertEqual(told, (line, ran.returncode))
             self.assertEqual(summary, heavy.Summary(k=2))
 
     def test_options(self) -> None:
         for options, kind, text in (
-            ({"delimiter": "ab"}, heavy.HeavyError, "^delimiter must be one byte"), ({"delimiter": "é"}, heavy.HeavyError, "^delimiter"),
+            ({"delimiter": "ab"}, heavy.HeavyError, "^delimiter must be one byte, and no quote, CR or LF$"), ({"delimiter": "é"}, heavy.HeavyError, "^delimiter"),
             ({"delimiter": '"'}, heavy.HeavyError, "^delimiter"), ({"delimiter": "\n"}, heavy.HeavyError, "^delimiter"),
             ({"delimiter": ""}, heavy.HeavyError, "^delimiter"), ({"delimiter": 44}, TypeError, "^delimiter must be a character, not 'int'"),
             ({"header": "host"}, TypeError, "^header must be True or False, not 'str'"), ({"header": 0}, TypeError, "^header"),
@@ -1673,6 +2461,105 @@ class Layouts(unittest.TestCase):
         drawn = [tuple(layout._words()[0]._obj.hash) for layout in [heavy.Layout()] * 20]
         self.assertEqual((len(set(drawn)), (0, 0) in drawn), (20, False))
         self.assertEqual(len({heavy.report_csv(OTHERS, 9) for _ in range(20)}), 1)
+
+
+class Places(unittest.TestCase):
+    """Where a bad record stands, and what is wrong with it, as numbers and names."""
+
+    # texts, layouts, the number of the bad record, its line, and what is wrong with it
+    BAD = [
+        (b"a,5\nb,0\n", {}, 2, 2, "RECORD_ZERO_WEIGHT"), (b"a,5\n\n\nb,x\n", {}, 2, 4, "RECORD_BAD_WEIGHT"),
+        (b"a\r\n\r\nb\rc,1,2\n", {}, 3, 4, "RECORD_FIELD_COUNT"), (b'"a\n\nb",5\n"c\rd"\n,5\n', {}, 3, 6, "RECORD_EMPTY_KEY"),
+        (b"\xef\xbb\xbfa,0\n", {}, 1, 1, "RECORD_ZERO_WEIGHT"), (b"h,w\n\na,1\nb,0\n", {"header": True}, 2, 4, "RECORD_ZERO_WEIGHT"),
+        (b'"h\nh";w\na;1\nb;0\n', {"header": True, "delimiter": ";"}, 2, 4, "RECORD_ZERO_WEIGHT"),
+        (b"\n\nh,w\na,1\nb,1\nc,1\nd,0\n", {"header": True}, 4, 7, "RECORD_ZERO_WEIGHT"),
+        (b"a\n" * 40 + b"x" * 4097 + b"\n", {}, 41, 41, "RECORD_KEY_TOO_LONG"),
+        (b"a,9223372036854775807\n\nb\n", {}, 2, 3, "RECORD_TOTAL_TOO_LARGE"),
+    ]
+
+    def test_records(self) -> None:
+        """Each call that reads records tells the path and the line, whatever parts they are read in."""
+        with tempfile.TemporaryDirectory() as room:
+            path = Path(room, "records")
+            for text, options, number, line, cause in self.BAD:
+                path.write_bytes(text)
+                layout = heavy.Layout(**options)
+                for given, named in ((text, None), (io.BytesIO(text), None), (str(path), str(path)), (path, path)):
+                    for call in (
+                        lambda: heavy.Summary.of_csv(given, layout=layout), lambda: heavy.Table.of_csv(given, layout=layout),
+                        lambda: heavy.Summary(k=5).update_csv(given, layout=layout), lambda: heavy.report(given, layout=layout),
+                        lambda: heavy.report(given, workers=3, layout=layout), lambda: heavy.Summary(k=5).condense(given, layout=layout),
+                        lambda: heavy.Summary(k=5).confirm(given, layout=layout),
+                    ):
+                        for size in (2, 1 << 20):
+                            given.seek(0) if isinstance(given, io.BytesIO) else None
+                            with self.subTest(text=text, size=size), in_parts(size), self.assertRaises(heavy.HeavyError) as caught:
+                                call()
+                            again = pickle.loads(pickle.dumps(caught.exception))
+                            for found in (caught.exception, again):
+                                self.assertEqual((found.number, found.line, found.path), (number, line, named), text)
+                                self.assertEqual((found.kind, found.cause), (heavy.Kind.BAD_RECORD, heavy.Cause[cause]))
+                            told = f"line {line}" if named is None else f"{named}, line {line}"
+                            noted = [told] if hasattr(caught.exception, "add_note") else []
+                            self.assertEqual(getattr(caught.exception, "__notes__", []), noted)
+
+    def test_lines_of_the_program(self) -> None:
+        """The line is that which the program tells of the same records."""
+        draw = random.Random(7)
+        with tempfile.TemporaryDirectory() as room:
+            path = Path(room, "records")
+            for size in range(1, 41):
+                text = b"".join(draw.choice([b"a", b"b,2", b'"c\n"', b'"d\r\n,",3', b""]) + draw.choice([b"\n", b"\r\n", b"\r"]) for _ in range(size))
+                path.write_bytes(text + b"e,0\n" + text)
+                ran = program("summarise", "--explain", str(path))
+                with in_parts(size), self.assertRaises(heavy.HeavyError) as caught:
+                    heavy.Summary.of_csv(path)
+                self.assertIn(f", line {caught.exception.line}, ".encode(), ran.stderr)
+
+    def test_other_faults(self) -> None:
+        """What has no line has none, and a missing column has the path."""
+        with tempfile.TemporaryDirectory() as room:
+            path = Path(room, "records")
+            path.write_bytes(b"h,w\na,1\n")
+            layout = heavy.Layout(header=True, key="z")
+            for call in (lambda: heavy.Summary.of_csv(path, layout=layout), lambda: heavy.report(path, layout=layout)):
+                with self.assertRaises(heavy.HeavyError) as caught:
+                    call()
+                found = caught.exception
+                self.assertEqual((found.kind, found.cause, found.path, found.line), (heavy.Kind.NO_COLUMN, None, path, None))
+        summary, table = heavy.Summary.of_csv(RECORDS, 2), heavy.Table()
+        for call, kind, cause in (
+            (lambda: heavy.Summary(k=0), "BAD_K", None), (lambda: heavy.Table(depth=0), "BAD_DEPTH", None),
+            (lambda: heavy.Table(width=0), "BAD_WIDTH", None), (lambda: heavy.Summary.of_csv(b"", method="x"), "BAD_METHOD", None),
+            (lambda: heavy.Summary(b"HHS").k, "BAD_FILE", "FILE_TRUNCATED"), (lambda: heavy.Summary(b"x" * 99).k, "BAD_FILE", "FILE_BAD_MAGIC"),
+            (lambda: summary + heavy.Summary(k=3), "CANNOT_MERGE", "MERGE_DIFFERENT_K"),
+            (lambda: table + heavy.Table(width=8), "CANNOT_MERGE", "MERGE_DIFFERENT_WIDTH"),
+            (lambda: table + heavy.Table(seed=1), "CANNOT_MERGE", "MERGE_DIFFERENT_FAMILY"),
+            (lambda: heavy.merge(summary, table), "MIXED_KINDS", None), (lambda: heavy.Summary(table.to_bytes()).k, "NOT_COUNTERS", None),
+            (lambda: summary.confirm(b"a\n"), "TOTAL_DIFFERS", None), (lambda: summary.confirm(b"b,11\n"), "WEIGHT_OUTSIDE", None),
+            (lambda: summary.confirm(RECORDS, "1/9"), "BAD_THRESHOLD", None), (lambda: heavy.Layout(delimiter=""), "BAD_DELIMITER", None),
+            (lambda: heavy.report(b"", layout=heavy.Layout(key="a")), "BAD_COLUMN", None),
+            (lambda: summary.update("a", 2**63 - 1), "BAD_RECORD", "RECORD_TOTAL_TOO_LARGE"),
+        ):
+            with self.subTest(kind), self.assertRaises(heavy.HeavyError) as caught:
+                call()
+            found = caught.exception
+            self.assertEqual((found.kind, found.cause), (heavy.Kind[kind], cause and heavy.Cause[cause]))
+            self.assertEqual((found.path, found.line), (None, None))
+
+    def test_numbers_of_the_header(self) -> None:
+        """Kinds and causes are those of the library's header."""
+        header = Path(__file__).resolve().parent.parent / "include" / "heavy.h"
+        if not header.exists():
+            self.skipTest("the header is not here")
+        numbers = {name: int(number) for name, number in re.findall(r"^#define HEAVY_(\w+) (\d+)u", header.read_text(), re.M)}
+        groups = {"RECORD": "BAD_RECORD", "FILE": "BAD_FILE", "MERGE": "CANNOT_MERGE", "KEY": "BAD_KEY"}
+        causes = {name: (numbers[groups[name.split("_")[0]]], number) for name, number in numbers.items() if name.split("_")[0] in groups}
+        self.assertEqual({cause.name: cause.value for cause in heavy.Cause}, causes)
+        others = {"VERSION", "DONE", "DEVICE", "USAGE", "REFUSED", "MEMORY", "TOO_SMALL", "MISRA_GRIES", "SPACE_SAVING", "SUMMARY", "TABLE", "MAX_KEY", "MAX_K"}
+        self.assertEqual({kind.name: kind.value for kind in heavy.Kind}, {
+            name: number for name, number in numbers.items() if name not in causes and name not in others
+        })
 
 
 class Same(unittest.TestCase):

@@ -8,6 +8,8 @@ usage: tests/tallies.py [CASES [SEED]]
 Prints the seed, how many cases ran and differed, of each kind. Each case has a seed of its own, one more than the case
 before it, and one that fails is told with the command that repeats it.
 """
+import os
+import shutil
 import sys
 import time
 from collections.abc import Iterator
@@ -134,6 +136,36 @@ class Tallies(programs.Checks):
             self.check(f"a summary of {count} keys", found == (0, wanted, b""), found)
             heavy = self.heavy("report", "--k", "1", *self.files([text + keys[0] + b",%d\n" % (count + 1)]))
             self.check(f"the heaviest of {count} keys", heavy == (0, keys[0] + b",%d\n" % (count + 2), b""), heavy)
+
+    def bytes_read(self, *words: str) -> tuple[int, bytes]:
+        """How many bytes the system counts as read by a run, and what it printed."""
+        log = self.saved("log", b"")
+        traced = ["strace", "-f", "-qq", "-e", "trace=read,pread64", "-o", log, self.program, *words]
+        ended = programs.run(traced, env=dict(os.environ))
+        results = [line.rpartition(b"= ")[2] for line in Path(log).read_bytes().splitlines()]
+        return sum(int(result) for result in results if result.isdigit()), ended.out
+
+    def test_readings(self) -> None:
+        """A report reads a file once where each key that can be heavy has kept its counter since before any was lost, and
+        twice where one came late, or lost its counter and came again. It is exact all the same."""
+        if not shutil.which("strace") or programs.run(["strace", "-qq", "-o", "/dev/null", "true"], env=dict(os.environ)).status != 0:
+            self.skipTest("what is read wants strace, and leave to trace")
+        others = [b"other%015d,1\n" % number for number in range(10 * ROOM)]
+        early = [b"early,%d\n" % (number % 9 + 1) for number in range(2 * ROOM)]
+        late = [b"late,%d\n" % (number % 9 + 1) for number in range(2 * ROOM)]
+        sum_of = sum(number % 9 + 1 for number in range(2 * ROOM))
+        known, counted = b"early,%d\n" % sum_of, b"late,%d\n" % sum_of
+        for name, parts, times, rows in [
+            ("a key that comes first", [*early, *others], 1, known),
+            ("one that comes last", [*others, *late], 2, counted),
+            ("one that comes again", [b"late,1\n", *others, *late], 2, b"late,%d\n" % (sum_of + 1)),
+            ("both", [*early, *others, *late], 2, known + counted),
+            ("no heavy key", others, 1, b""),
+        ]:
+            text = b"".join(parts)
+            read, out = self.bytes_read("report", "--k", "9", "--workers", "1", *self.files([text]))
+            self.check(f"the rows of {name}", out == rows, out)
+            self.check(f"{name} is read {times} times", times <= read / len(text) < times + 0.5, read / len(text))
 
     def test_reports(self) -> None:
         """A report by tallies has the rows and the refusals of that which one thread makes by a plan."""

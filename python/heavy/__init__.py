@@ -6,6 +6,7 @@
     both.update("10.0.0.1", 5)                    # one item more; heavy.Summary(k=100) begins empty
     both.update_many({"10.0.0.1": 5})             # many: keys, keys and weights, or a mapping
     both.ask(b"10.0.0.1")                         # (least, most)
+    both["10.0.0.1"].low                          # a mapping from keys to the least and the most
     both.top(10)                                  # rows of a key, its least and its most
     both.confirm(records)                         # rows of a key and its weight, exact
     both.condense(part)                           # fewer records that confirm the same
@@ -16,22 +17,27 @@ of pandas, or what Arrow's interface gives; none of these libraries is needed. `
 frame, and `heavy.dask` those of a collection.
 
 What has the wrong type is a `TypeError`, and a wrong value a `ValueError`: a `HeavyError`, with the program's text and
-exit status, where the library refuses it. Calls share nothing, and those that take long let other threads run meanwhile. A
-summary or table that one thread updates is for no other meanwhile. The library is looked for where LIBHEAVY says, in this
-folder, and then where the system looks.
+exit status, where the library refuses it. Any thread may make any call: each object has a lock of its own, so that its
+changes are made one after the other, and a read finds what is there between two of them. The library is looked for where
+LIBHEAVY says, in this folder, and then where the system looks.
 """
 import re as _re
 from pathlib import Path as _Path
 
 from . import dask, pandas
+from ._faults import Cause, Kind
 from ._files import Info, Summary, Table, merge, report, report_csv
 from ._library import HeavyError
 from ._options import Layout
-from ._records import Bounds, Row
+from ._records import Bounds, Interval, Row
+from ._window import Window
 
-__all__ = ["Bounds", "HeavyError", "Info", "Layout", "Row", "Summary", "Table", "merge", "report", "report_csv"]
+__all__ = [
+    "Bounds", "Cause", "HeavyError", "Info", "Interval", "Kind", "Layout", "Row", "Summary", "Table", "Window", "merge", "report",
+    "report_csv",
+]
 
-for _public in (Bounds, HeavyError, Info, Layout, Row, Summary, Table, merge, report, report_csv):
+for _public in (Bounds, Cause, HeavyError, Info, Interval, Kind, Layout, Row, Summary, Table, Window, merge, report, report_csv):
     _public.__module__ = __name__
 
 

@@ -4,15 +4,17 @@ from __future__ import annotations
 import array
 import copy
 import ctypes
+import datetime
 import decimal
 import itertools
 import numbers
 import operator
+import re
 import sys
 from collections.abc import Mapping, Set
-from typing import Any, Callable, Iterable, NamedTuple, TypeVar, Union
+from typing import Any, Callable, Iterable, Iterator, NamedTuple, TypeVar, Union
 
-from ._library import MAX_KEY, MAX_TOTAL, lent
+from ._library import MAX_KEY, MAX_TOTAL, added_so_far, is_flag, lent
 
 Key = Union[bytes, bytearray, memoryview, str]
 Keys = Union[Iterable[Key], Mapping[Any, int]]  # an iterable of keys, or a mapping from keys to weights
@@ -55,6 +57,8 @@ def _advice(key: Any) -> str:
     """What to do in place of giving this as a key."""
     if isinstance(key, (numbers.Number, decimal.Decimal)):
         return "; of a number give its text, as str(number)"
+    if isinstance(key, (datetime.date, datetime.time, datetime.timedelta)):
+        return "; of a date or a time give its text, as str(key)"
     if isinstance(key, Mapping):
         return "; update_many takes the keys and weights of a mapping"
     if isinstance(key, (tuple, list)):
@@ -80,14 +84,20 @@ def _refused_key(size: int) -> ValueError:
     return ValueError(f"a key must have 1 to {MAX_KEY} bytes, not {size}")
 
 
-def integer_of_weight(weight: int) -> int:
-    """A weight that an item can have."""
-    if isinstance(weight, bool) or not hasattr(weight, "__index__"):
-        raise TypeError(f"a weight must be an integer, not {type(weight).__name__!r}")
+def integer_of_weight(weight: int, least: int = 1) -> int:
+    """A weight that an item can have, or 0 where that is the least."""
+    if is_flag(weight) or not hasattr(weight, "__index__"):
+        advice = "; take its low or its high" if hasattr(weight, "low") else ""
+        raise TypeError(f"a weight must be an integer, not {type(weight).__name__!r}{advice}")
     number = operator.index(weight)
-    if not 1 <= number <= MAX_TOTAL:
-        raise ValueError(f"a weight must be from 1 to 2^63 - 1, not {number}")
+    if not least <= number <= MAX_TOTAL:
+        raise ValueError(f"a weight must be from {least} to 2^63 - 1, not {number}")
     return number
+
+
+def _integer_or_zero(weight: int) -> int:
+    """A weight that an item can have, or 0."""
+    return integer_of_weight(weight, 0)
 
 
 def columns_named(given: Any) -> list[Any] | None:
@@ -402,6 +412,8 @@ def columns_of(keys: Any) -> Columns:
     if texts.dtype.kind in "iufcb" and len(texts):
         advice = "of numbers give keys.astype(str)" + (", of weights by key keys.to_dict()" if hasattr(keys, "to_dict") else "")
         raise TypeError(f"keys[0]: a key must be bytes or str, not '{texts.dtype}'; {advice}")
+    if texts.dtype.kind in "mM" and len(texts):
+        raise TypeError(f"keys[0]: a key must be bytes or str, not '{texts.dtype}'; of dates and times give keys.astype(str)")
     return _numpy_columns(texts) if texts.dtype.kind == "S" else _columns_of_list(texts.tolist())
 
 
@@ -434,11 +446,8 @@ def _words_of(values: Any) -> Any:
     return own.view("u8") if own.dtype in ("=i8", "=u8") else own.astype("=u8")
 
 
-def numbers_of(weights: Any, count: int, names: list[Any] | None = None) -> Any:
-    """As many weights as there are keys, all of them checked, or None for 1 each. Weights may go on for ever: one too many
-    is enough to refuse them."""
-    if weights is None:
-        return None
+def _weights_in(weights: Any) -> Any:
+    """Weights as an iterable of them, where they are one."""
     frame = columns_named(weights)
     if frame is not None:
         raise TypeError(f"weights must be an iterable of integers, not a {type(weights).__name__}; {_one_of(frame)}")
@@ -447,13 +456,25 @@ def numbers_of(weights: Any, count: int, names: list[Any] | None = None) -> Any:
     values = _values_of(weights)
     if isinstance(values, (str, bytes, bytearray, Set)) or not _is_iterable(values):
         raise TypeError(f"weights must be an iterable of integers, not {type(values).__name__!r}")
+    return values
+
+
+def numbers_of(weights: Any, count: int, names: list[Any] | None = None, zero: bool = False) -> Any:
+    """As many weights as there are keys, all of them checked, or None for 1 each; with `zero` there may be some of 0. Weights
+    may go on for ever: one too many is enough to refuse them."""
+    if weights is None:
+        return None
+    values = _weights_in(weights)
     if _is_integers(values):
         least, most = _least_and_most(values) if len(values) else (0, 0)
-        if len(values) == count and 1 <= least <= most <= MAX_TOTAL:
+        if len(values) == count and (0 if zero else 1) <= least <= most <= MAX_TOTAL:
             return array.array("Q", values) if isinstance(values, array.array) else _words_of(values)
         values = values.tolist()
     given = itertools.islice(values, count + 1)
-    checked = array.array("Q", _all_checked("weights", integer_of_weight, given, names))
+    check: Callable[[int], int] = integer_of_weight
+    if zero:
+        check = _integer_or_zero
+    checked = array.array("Q", _all_checked("weights", check, given, names))
     if len(checked) != count:
         told = "more" if len(checked) > count else "fewer"
         raise ValueError(f"there are {told} weights than keys, which are {count}")
@@ -469,21 +490,85 @@ class Items(NamedTuple):
     many: int
 
 
-def items_of(keys: Any, weights: Any, room: int = 0) -> Items:
+def _items(columns: Columns, numbers: Any) -> Items:
+    """Items of these keys and weights, but for those of weight 0."""
+    count = len(columns.ends)
+    if numbers is None or not count or _least_and_most(numbers)[0]:
+        return Items(columns, numbers, numbers, count)
+    weights = numbers.tolist()
+    left = _columns_of_list([word for word, weight in zip(columns.words(), weights) if weight])
+    return Items(left._replace(text=columns.text), array.array("Q", filter(None, weights)), numbers, count)
+
+
+def items_of(keys: Any, weights: Any, room: int = 0, skip_zero: bool = False) -> Items:
     """Keys and weights, all of them checked: those given, or those of a mapping. Equal keys of a column of pandas or pyarrow
-    are one item where the different ones are at most `room`."""
+    are one item where the different ones are at most `room`. With `skip_zero` items of weight 0 are left out."""
     if isinstance(keys, Mapping):
         if weights is not None:
             raise TypeError(f"keys is a {type(keys).__name__}, which has weights of its own; give none beside it")
         columns = columns_of([*keys])
-        numbers = numbers_of([*keys.values()], len(columns.ends), [*keys])
+        numbers = numbers_of([*keys.values()], len(columns.ends), [*keys], skip_zero)
     else:
-        together = _together(keys, weights, room) if room and hasattr(keys, "to_numpy") and columns_named(keys) is None else None
+        is_column = hasattr(keys, "to_numpy") and columns_named(keys) is None
+        together = _together(keys, weights, room) if room and is_column else None
         if together is not None:
             return together
         columns = columns_of(keys)
-        numbers = numbers_of(weights, len(columns.ends))
-    return Items(columns, numbers, numbers, len(columns.ends))
+        numbers = numbers_of(weights, len(columns.ends), None, skip_zero)
+    return _items(columns, numbers)
+
+
+_BATCH, _BATCH_BYTES = 1 << 16, 1 << 22  # how many keys, or bytes of keys, a batch has
+_BLOCK = 1 << 12  # how many keys of it are read at once
+
+
+def comes_by_batches(keys: Any) -> bool:
+    """Whether these are keys of which nothing tells how many they are, as those of an iterator."""
+    whole = ("__len__", "__arrow_c_array__", "__arrow_c_stream__", "to_pylist")
+    if not hasattr(keys, "__iter__") or columns_named(keys) is not None or _is_pandas(keys):
+        return False
+    return not any(hasattr(keys, name) for name in whole)
+
+
+def _next_batch(first: list[Any], keys: Iterator[Any]) -> list[Any]:
+    """The first key and the next ones, of which fewer are read where they are long."""
+    batch, block, size = [], first, 0
+    while block:
+        batch += block
+        size += sum(len(key) for key in block if hasattr(key, "__len__"))
+        wanted = min(_BLOCK, _BATCH - len(batch)) if size < _BATCH_BYTES else 0
+        block = [*itertools.islice(keys, wanted)]
+    return batch
+
+
+def batches_of(keys: Iterable[Any], weights: Any, skip_zero: bool) -> Iterator[Items]:
+    """Keys and weights in batches, in order, each of them checked before it comes. The last one comes once no weight is left."""
+    coming, numbers, before = iter(keys), None if weights is None else iter(_weights_in(weights)), 0
+    first = [*itertools.islice(coming, 1)]
+    while True:
+        batch = _next_batch(first, coming)
+        first = [*itertools.islice(coming, 1)]
+        count = len(batch)
+        given = None if numbers is None else [*itertools.islice(numbers, count if first else count + 1)]
+        try:
+            columns = columns_of(batch)
+            if given is not None and len(given) != count:
+                told = "more" if len(given) > count else "fewer"
+                raise ValueError(f"there are {told} weights than keys, which are {before + count}{' or more' if first else ''}")
+            checked = numbers_of(given, count, None, skip_zero)
+        except (TypeError, ValueError) as refused:
+            raise _among_all(refused, before) from None
+        del batch, given
+        yield _items(columns, checked)
+        before += count
+        if not first:
+            return
+
+
+def _among_all(refused: TypeError | ValueError, before: int) -> Exception:
+    """The refusal of a batch, with the index that the key or the weight has among all, and how many items are added."""
+    told = re.sub(r"^(keys|weights)\[(\d+)\]", lambda found: f"{found[1]}[{int(found[2]) + before}]", str(refused))
+    return type(refused)(f"{told}; {added_so_far(before)}" if before else told)
 
 
 def _together(keys: Any, weights: Any, room: int) -> Items | None:

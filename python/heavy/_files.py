@@ -4,26 +4,34 @@ from __future__ import annotations
 import array
 import copy
 import ctypes
+import html
 import importlib
 import itertools
+import math
 import os
+import secrets
 import struct
-import tempfile
+from collections.abc import ItemsView, Mapping, ValuesView
 from concurrent.futures import ThreadPoolExecutor
 from pathlib import Path
 from typing import Any, Callable, Dict, Iterable, Iterator, List, NamedTuple, Optional, Tuple, TypeVar, overload
 
-from ._columns import ANY, Columns, Items, Key, Keys, bytes_of_key, columns_of, integer_of_weight, items_of, lent_items
-from ._columns import sum_of, text_of_bytes
+from ._columns import ANY, Columns, Items, Key, Keys, batches_of, bytes_of_key, columns_of, comes_by_batches, integer_of_weight
+from ._columns import items_of, lent_items, sum_of, text_of_bytes
 from ._growing import Growing
 from ._library import BAD_METHOD, BAD_RECORD, BAD_THRESHOLD, LARGE, MAX_KEY, MAX_TOTAL, MIXED_KINDS, NOT_COUNTERS, REFUSED
 from ._library import SMALL, TABLE, TOTAL_TOO_LARGE, USAGE, Entry, Fault, HashWords, HeavyError, InfoWords, Pair, answer, calls
-from ._library import checked, given, integer, joined, lent, random_words, word
-from ._options import PLAIN, Layout, Threshold, share_of
-from ._records import Bounds, Given, Named, Records, Row, bytes_of, is_file, parts_of, records_in, rows_of, with_records
+from ._library import checked, flag, given, integer, joined, lent, random_words, say_added
+from ._library import word
+from ._lock import WITHIN, Lock, changing, reading
+from ._options import PLAIN, Layout, Threshold, error_of, share_of
+from ._records import Bounds, Given, Interval, Named, Records, Row, bytes_of, is_file, parts_of, placing, records_in
+from ._records import rows_of, with_records
 
 _COLUMN_BATCH = 1 << 20  # items of a column that the library adds at once
 _METHODS = ("mg", "ss")
+_MOST_KEYS, _WIDEST, _DEEPEST = 65535, 65536, 16  # the largest k, width and depth
+_SHOWN = 20  # the most rows that a notebook shows
 File = TypeVar("File", bound="_File")
 
 
@@ -48,6 +56,14 @@ def _info(saved: bytes) -> Info:
     if words.kind == TABLE:
         return Info(words.version, "table", words.total, depth=words.depth, width=words.width)
     return Info(words.version, "summary", words.total, words.k, words.keys, words.counters, words.slack)
+
+
+def _asked_of(saved: bytes, key: bytes) -> Tuple[int, int]:
+    """The least and the most that a key's weight can be, by a saved file."""
+    low, high, fault = ctypes.c_uint64(), ctypes.c_uint64(), Fault()
+    words = (*lent(saved), *lent(key), ctypes.byref(low), ctypes.byref(high))
+    checked(calls.heavy_ask(*words, ctypes.byref(fault)), fault)
+    return low.value, high.value
 
 
 def _with_items(saved: bytes, columns: Columns, weights: Any) -> bytes:
@@ -80,7 +96,8 @@ def _empty_table(width: int, depth: int, seed: int) -> bytes:
 
 
 class _File:
-    """A saved file: its bytes, or from the first item on that comes by itself the value of it that grows."""
+    """A saved file: its bytes, or from the first item on that comes by itself the value of it that grows. Who sets `_value` owns
+    the lock and holds its mutex, as does who uses one that grows. A read takes the bytes once, and then needs no lock."""
 
     _row = ""  # what only a file of this kind has in its description
     _other: Tuple[int, int] = (0, 0)  # the numbers of the refusal of another kind
@@ -88,9 +105,20 @@ class _File:
     def __init__(self, saved: Given) -> None:
         self._value: bytes | Growing = bytes_of(saved)
         self._known: Tuple[Any, Any] = (None, None)  # the file's bytes, and what they say
+        self._lock = Lock()
 
     def __getstate__(self) -> Dict[str, Any]:
-        return {**self.__dict__, "_value": self.to_bytes(), "_known": (None, None)}
+        return self._state(self.to_bytes())
+
+    def __setstate__(self, state: Dict[str, Any]) -> None:
+        self.__dict__.update(state)
+        self._lock = Lock()
+
+    def _state(self, saved: bytes) -> Dict[str, Any]:
+        """What another object has of this one, with these bytes: neither the lock nor what was read of other bytes."""
+        state = {**self.__dict__, "_value": saved, "_known": (None, None)}
+        del state["_lock"]
+        return state
 
     @classmethod
     def load(cls: type[File], path: Named) -> File:
@@ -109,18 +137,15 @@ class _File:
         """Writes the file's bytes to this path. Who reads there meanwhile reads the old file or the new one, whole."""
         whole = self.to_bytes()
         place = Path(path)
-        made, name = tempfile.mkstemp(dir=place.parent, prefix=f".{place.name}.")
+        beside = place.parent / f".{place.name}.{secrets.token_hex(8)}"
         try:
-            with open(made, "wb") as file:
+            with open(beside, "xb") as file:
                 file.write(whole)
                 file.flush()
                 os.fsync(file.fileno())
-            mask = os.umask(0)
-            os.umask(mask)
-            os.chmod(name, 0o666 & ~mask)
-            os.replace(name, place)
+            os.replace(beside, place)
         except BaseException:
-            os.unlink(name)
+            beside.unlink(missing_ok=True)
             raise
 
     def to_bytes(self) -> bytes:
@@ -130,10 +155,19 @@ class _File:
         (5, 5)
         """
         value = self._value
-        return value if isinstance(value, bytes) else value.saved()
+        if isinstance(value, bytes):
+            return value
+        with self._lock.mutex:
+            value = self._value
+            return value if isinstance(value, bytes) else value.saved()
+
+    def _set(self, saved: bytes) -> None:
+        """Makes these the file's bytes. The caller owns the lock."""
+        with self._lock.mutex:
+            self._value = saved
 
     def _grown(self) -> Growing:
-        """The file's value, which has to be of this kind, as it grows from now on."""
+        """The file's value, which has to be of this kind, as it grows from now on. The caller owns the lock."""
         self._told()
         self._value = value = Growing(self.to_bytes())
         return value
@@ -155,10 +189,14 @@ class _File:
         >>> Table.of_csv(b"a,5\\n", 8, 2).describe().total
         5
         """
-        saved = self.to_bytes()
-        if self._known[0] is not saved:
-            self._known = saved, _info(saved)
-        found: Info = self._known[1]
+        return self._described(self.to_bytes())
+
+    def _described(self, saved: bytes) -> Info:
+        """What is in the file whose bytes are these."""
+        known = self._known
+        if known[0] is not saved:
+            self._known = known = saved, _info(saved)
+        found: Info = known[1]
         return found
 
     def describe_csv(self) -> bytes:
@@ -175,11 +213,8 @@ class _File:
         >>> Summary.of_csv(b"a,5\\nb,2\\n", k=1).ask("a")
         (3, 5)
         """
-        low, high, fault = ctypes.c_uint64(), ctypes.c_uint64(), Fault()
         held = bytes_of_key(key)
-        words = (*lent(self.to_bytes()), *lent(held), ctypes.byref(low), ctypes.byref(high))
-        checked(calls.heavy_ask(*words, ctypes.byref(fault)), fault)
-        return low.value, high.value
+        return _asked_of(self.to_bytes(), held)
 
     def ask_many(self, keys: Iterable[Key]) -> List[Tuple[int, int]]:
         """What `ask` says of each of these keys, in order. The file is read once.
@@ -203,18 +238,32 @@ class _File:
         # bytes and int are most of what comes, and are tested here alone
         held = key if type(key) is bytes and 1 <= len(key) <= MAX_KEY else bytes_of_key(key)
         number = weight if type(weight) is int and 1 <= weight <= MAX_TOTAL else integer_of_weight(weight)
-        value = self._value
-        (value if isinstance(value, Growing) else self._grown()).add(held, number)
+        lock = self._lock
+        with lock.mutex:
+            if lock.owner is not None:
+                lock.wait()
+            lock.owner = WITHIN
+            try:
+                value = self._value
+                (value if isinstance(value, Growing) else self._grown()).add(held, number)
+            finally:
+                lock.owner = None
 
-    def update_many(self, keys: Keys, weights: Iterable[int] | None = None) -> None:
+    def update_many(self, keys: Keys, weights: Iterable[int] | None = None, *, skip_zero: bool = False) -> None:
         """Adds an item for each of these keys, in order, with as many weights, or else of weight 1 each; or the keys and
         weights of a mapping, such as a Counter. A text is its bytes in UTF-8. Keys and weights may be arrays of numpy,
-        columns of pandas, or what Arrow's interface gives. Each call goes through the whole file: for a few items `update` is
-        faster.
+        columns of pandas, or what Arrow's interface gives. Each call of more than one item goes through the whole file: for a few
+        items `update` is faster.
 
         What is no key or no integer is a `TypeError`, and a key or a weight outside of the limits, or another number of
         weights, a `ValueError`, each with the index in keys or weights. A total above 2^63 - 1 is a `HeavyError` with the
-        item's number from 1 on. After a refusal none of these items is added.
+        item's number from 1 on. After a refusal none of these items is added. With `skip_zero` an item of weight 0 adds nothing,
+        and is no fault.
+
+        Keys of which nothing tells how many they are, as those of an iterator, may go on for any length, with little memory.
+        They are added in batches of some ten thousands, each whole or not at all, and items of other threads may come between
+        two. Where something is raised, `added` of it is the number of items of this call that are added, those of all batches
+        before. Where there are some, its text says so, or its note from Python 3.11 on.
 
         >>> summary = Summary()
         >>> summary.update_many(["a", b"b"], [5, 3])
@@ -227,16 +276,50 @@ class _File:
         """
         if isinstance(keys, _File):
             raise TypeError(f"keys is a {type(keys).__name__}, which is merged, as by +=")
-        self._add(items_of(keys, weights, self._room() if hasattr(keys, "to_numpy") else 0))
+        skip_zero = flag("skip_zero", skip_zero)
+        if comes_by_batches(keys):
+            self._add_batches(batches_of(keys, weights, skip_zero))
+        elif not hasattr(keys, "to_numpy") or not self._add(items_of(keys, weights, self._room(), skip_zero), ordered=True):
+            self._add(items_of(keys, weights, 0, skip_zero))
+
+    def _add_batches(self, batches: Iterator[Items]) -> None:
+        """Adds batches of items. What is raised says how many items were added."""
+        added = 0
+        try:
+            for items in batches:
+                self._add(items)
+                added += items.many
+        except HeavyError as refused:
+            status, kind, cause, number = refused.numbers
+            told = HeavyError(status, kind, cause, number + (added if kind == BAD_RECORD else 0))
+            say_added(told, added)
+            raise told from None
+        except BaseException as raised:
+            say_added(raised, added)
+            raise
 
     def _room(self) -> int:
         """How many different keys may come in any order for the same bytes."""
         return ANY
 
-    def _add(self, items: Items) -> None:
-        """Adds items that were checked."""
-        self._check_total(items.many, items.given)
-        self._value = self._with(items)
+    def _add(self, items: Items, ordered: bool = False) -> bool:
+        """Adds items that were checked, and tells whether it did: not those with equal keys as one where they have to be added in
+        order, and other threads have left them too little room."""
+        with changing(self._lock):
+            if ordered and self._room() < len(items.columns.ends) < items.many:
+                return False
+            if items.many == len(items.columns.ends) == 1:
+                self._add_one(items.columns.between(0, int(items.columns.ends[0])), 1 if items.weights is None else int(items.weights[0]))
+                return True
+            self._check_total(items.many, items.given)
+            self._set(self._with(items))
+            return True
+
+    def _add_one(self, key: bytes, weight: int) -> None:
+        """Adds an item with no copy of the file. The caller owns the lock."""
+        with self._lock.mutex:
+            value = self._value
+            (value if isinstance(value, Growing) else self._grown()).add(key, weight)
 
     def _with(self, items: Items) -> bytes:
         """The file's bytes with items added."""
@@ -251,7 +334,8 @@ class _File:
         >>> summary.entries()
         [(b'a', 7), (b'b', 1)]
         """
-        self._value = with_records(self.to_bytes(), records, layout, self._begun(layout))
+        with changing(self._lock):
+            self._set(with_records(self.to_bytes(), records, layout, self._begun(layout)))
 
     def _begun(self, layout: Layout) -> Callable[[bytes], bytes] | None:
         """What makes a file of this kind of a text's records, where that is faster than to add them to one of no items."""
@@ -268,8 +352,8 @@ class _File:
 
     def _like(self: File, saved: bytes) -> File:
         """Another file of this kind, whose keys come back as this one's do."""
-        made = copy.copy(self)
-        made._value = saved
+        made = type(self).__new__(type(self))
+        made.__setstate__(self._state(saved))
         return made
 
     def __add__(self: File, other: File) -> File:
@@ -302,14 +386,15 @@ class _File:
         """
         if type(other) is not type(self):
             return NotImplemented
-        self._value = merge(self, other).to_bytes()
+        with changing(self._lock, other._lock):
+            self._set(merge(self, other).to_bytes())
         return self
 
     __ior__ = __iadd__
 
-    def _told(self) -> Info:
-        """What is in the file, which has to be of this kind."""
-        info = self.describe()
+    def _told(self, saved: bytes | None = None) -> Info:
+        """What is in the file, which has to be of this kind: as it is now, or as these bytes are."""
+        info = self._described(self.to_bytes() if saved is None else saved)
         if getattr(info, self._row) is None:
             raise HeavyError(REFUSED, self._other[0], 0, self._other[1])
         return info
@@ -331,16 +416,40 @@ class _File:
         """
         if not isinstance(other, type(self)):
             return NotImplemented
-        return self.to_bytes() == other.to_bytes()
+        with reading([self._lock, other._lock]):
+            return self.to_bytes() == other.to_bytes()
 
     __hash__ = None  # type: ignore[assignment]
 
 
-class Summary(_File):
+class _Items(ItemsView[Any, Interval]):
+    """The keys and intervals of a summary. An iteration has them as they were when it began."""
+
+    _mapping: Summary
+
+    def __iter__(self) -> Iterator[Tuple[Any, Interval]]:
+        return iter([(row.key, Interval(row.low, row.high)) for row in self._mapping.rows()])
+
+
+class _Values(ValuesView[Interval]):
+    """The intervals of a summary. An iteration has them as they were when it began."""
+
+    _mapping: Summary
+
+    def __iter__(self) -> Iterator[Interval]:
+        return iter([Interval(row.low, row.high) for row in self._mapping.rows()])
+
+    def __contains__(self, value: object) -> bool:
+        return any(value == one for one in self)
+
+
+class Summary(_File, Mapping[Any, Interval]):
     """A summary of counters: a saved one, or with k alone a new one of no items, which grows by `update`.
 
-    It is a mapping from the keys that have a counter to rows of a key, the least and the most of its weight. Keys come back
-    as bytes, or with `text` as str.
+    It is a mapping from the keys that have a counter to the least and the most of their weights, by falling low and then by
+    rising key. Keys come back as bytes, or with `text` as str. An iteration, over `items` or `values` too, has what was there
+    when it began. `dict(summary)` and `Counter(summary)` ask key by key: where other threads change the summary meanwhile,
+    `dict(summary.items())` is of one time. `rows` has rows of a key, its least and its most.
 
     >>> summary = Summary(k=2, text=True)
     >>> summary.update_many(["a", "b", "a"])
@@ -349,7 +458,9 @@ class Summary(_File):
     >>> list(summary), "a" in summary, "c" in summary
     (['a', 'b'], True, False)
     >>> summary["a"]
-    Bounds(key='a', low=2, high=2)
+    Interval(low=2, high=2)
+    >>> dict(summary.items()) == dict(summary)
+    True
     """
 
     _row, _other = "k", (NOT_COUNTERS, 0)
@@ -373,9 +484,24 @@ class Summary(_File):
         super().__init__(saved)
         self.text = bool(text)
         self._rows: Tuple[Any, Any] = (None, None)  # the file's bytes, and its rows by key
+        self._asked: Any = None  # the file's bytes of which a key was asked last, with no rows
 
-    def __getstate__(self) -> Dict[str, Any]:
-        return {**super().__getstate__(), "_rows": (None, None)}
+    def _state(self, saved: bytes) -> Dict[str, Any]:
+        return {**super()._state(saved), "_rows": (None, None), "_asked": None}
+
+    @classmethod
+    def for_error(cls, error: Any, *, text: bool = False) -> Summary:
+        """The summary of no items with the least k by which a key's weight is never more than this share of the total above its
+        counter. The share is given as a threshold is, or as any float. A share for which k would be too large is a
+        `ValueError` with that k.
+
+        >>> Summary.for_error("1/1000")
+        <heavy.Summary k=999 total=0 keys=0 slack=0>
+        """
+        k = max(math.ceil(1 / error_of("error", error)) - 1, 1)
+        if k > _MOST_KEYS:
+            raise ValueError(f"an error of {error} wants a k of {k}, and the largest is {_MOST_KEYS}")
+        return cls(k=k, text=text)
 
     @classmethod
     def of_csv(
@@ -400,7 +526,7 @@ class Summary(_File):
         >>> import tempfile
         >>> with tempfile.TemporaryDirectory() as folder:
         ...     Summary.of_csv(b"a,5\\n").save(f"{folder}/a.heavy")
-        ...     Summary.load(f"{folder}/a.heavy", text=True).keys()
+        ...     [*Summary.load(f"{folder}/a.heavy", text=True)]
         ['a']
         """
         made = super().load(path)
@@ -427,30 +553,30 @@ class Summary(_File):
 
     def _room(self) -> int:
         # where no counter is lowered each is the sum of its key's weights
-        return self.k - len(self)
+        info = self._told()
+        return (info.k or 0) - (info.keys or 0)
 
     def _begun(self, layout: Layout) -> Callable[[bytes], bytes] | None:
-        k = self.k
-        if self.total:
+        info = self._told()
+        if info.total:
             return None
+        k = info.k or 0
         guess = min(17 + k * (MAX_KEY + 10), LARGE)
         return lambda text: answer(calls.heavy_summarise_records, *lent(text), *layout._words(), k, guess=guess)
 
     def _number(self, name: str) -> int:
         return int(getattr(self._told(), name))
 
-    def _key(self, key: bytes) -> Any:
-        """A key as it comes back."""
-        return text_of_bytes(key) if self.text else key
-
-    def _by_key(self) -> Dict[bytes, Bounds]:
-        """The rows by the bytes of their keys, by falling low and then by rising key."""
-        saved = self.to_bytes()
-        if self._rows[0] is not saved or self._rows[1].text != self.text:
-            slack = self.slack
+    def _by_key(self, saved: bytes | None = None) -> Dict[bytes, Bounds]:
+        """The rows by the bytes of their keys, by falling low and then by rising key: as they are now, or of these bytes."""
+        saved = self.to_bytes() if saved is None else saved
+        text, known = self.text, self._rows
+        if known[0] is not saved or known[1].text != text:
+            slack = self._told(saved).slack or 0
             ordered = sorted(_entries(saved), key=lambda entry: (-entry[1], entry[0]))
-            self._rows = saved, _Rows(self.text, {key: Bounds(self._key(key), low, low + slack) for key, low in ordered})
-        found: Dict[bytes, Bounds] = self._rows[1].rows
+            rows = {key: Bounds(_key(key, text), low, low + slack) for key, low in ordered}
+            self._rows = known = saved, _Rows(text, rows)
+        found: Dict[bytes, Bounds] = known[1].rows
         return found
 
     def __len__(self) -> int:
@@ -471,9 +597,9 @@ class Summary(_File):
         >>> [*Summary.of_csv(b"b\\na,5\\n")]
         [b'a', b'b']
         """
-        return iter(self.keys())
+        return iter([row.key for row in self.rows()])
 
-    def __contains__(self, key: Key) -> bool:
+    def __contains__(self, key: Any) -> bool:
         """Whether a key has a counter.
 
         >>> "a" in Summary.of_csv(b"a,5\\n")
@@ -481,25 +607,25 @@ class Summary(_File):
         """
         return self.get(key) is not None
 
-    def __getitem__(self, key: Key) -> Bounds:
-        """The row of a key that has a counter; of another key a `KeyError`. `ask` tells the bounds of any key.
+    def __getitem__(self, key: Key) -> Interval:
+        """The least and the most that a key with a counter weighs; of another key a `KeyError`. `ask` tells those of any key.
 
         >>> Summary.of_csv(b"b\\na,5\\n")["a"]
-        Bounds(key=b'a', low=5, high=5)
+        Interval(low=5, high=5)
         """
-        row = self.get(key)
-        if row is None:
+        found = self.get(key)
+        if found is None:
             raise KeyError(key)
-        return row
+        return found
 
     @overload
-    def get(self, key: Key) -> Optional[Bounds]: ...
+    def get(self, key: Key) -> Optional[Interval]: ...
 
     @overload
     def get(self, key: Key, default: Any) -> Any: ...
 
     def get(self, key: Key, default: Any = None) -> Any:
-        """The row of a key that has a counter, or else the default.
+        """The least and the most that a key with a counter weighs, or else the default.
 
         >>> Summary.of_csv(b"a,5\\n").get("b", 0)
         0
@@ -508,29 +634,42 @@ class Summary(_File):
             held = bytes_of_key(key)
         except ValueError:  # no key has so many bytes
             return default
-        return self._by_key().get(held, default)
+        saved = self.to_bytes()
+        if self._rows[0] is saved or self._asked is saved:
+            row = self._by_key(saved).get(held)
+            return default if row is None else Interval(row.low, row.high)
+        self._told(saved)
+        low, high = _asked_of(saved, held)
+        self._asked = saved  # rows of all keys are made at the next question, if the file is the same then
+        return Interval(low, high) if low else default
 
-    def keys(self) -> List[Any]:
-        """The keys that have a counter, by falling low and then by rising key.
+    def items(self) -> ItemsView[Any, Interval]:
+        """The keys that have a counter, each with the least and the most of its weight, as a view.
 
-        >>> Summary.of_csv(b"b\\na,5\\n", text=True).keys()
-        ['a', 'b']
+        >>> [*Summary.of_csv(b"b\\na,5\\n").items()]
+        [(b'a', Interval(low=5, high=5)), (b'b', Interval(low=1, high=1))]
         """
-        return [row.key for row in self._by_key().values()]
+        return _Items(self)
 
-    def items(self) -> List[Bounds]:
+    def values(self) -> ValuesView[Interval]:
+        """The least and the most of the weight of each key that has a counter, as a view.
+
+        >>> [*Summary.of_csv(b"b\\na,5\\n").values()]
+        [Interval(low=5, high=5), Interval(low=1, high=1)]
+        """
+        return _Values(self)
+
+    def rows(self) -> List[Bounds]:
         """The rows of the keys that have a counter, each with the least and the most of its weight, by falling low and then
         by rising key.
 
-        >>> Summary.of_csv(b"b\\na,5\\n").items()
+        >>> Summary.of_csv(b"b\\na,5\\n").rows()
         [Bounds(key=b'a', low=5, high=5), Bounds(key=b'b', low=1, high=1)]
         """
         return [*self._by_key().values()]
 
-    list = items
-
     def list_csv(self) -> bytes:
-        """The rows of `items`, as `heavy list` prints them.
+        """What `rows` has, as `heavy list` prints it.
 
         >>> Summary.of_csv(b"a,2\\nb,5\\n").list_csv()
         b'b,5,5\\na,2,2\\n'
@@ -538,7 +677,7 @@ class Summary(_File):
         return answer(calls.heavy_list, *lent(self.to_bytes()), guess=SMALL)
 
     def top(self, n: int) -> List[Bounds]:
-        """The first n rows of `items`.
+        """The first n of `rows`.
 
         >>> Summary.of_csv(b"b\\na,5\\n", text=True).top(1)
         [Bounds(key='a', low=5, high=5)]
@@ -546,39 +685,41 @@ class Summary(_File):
         count = integer("n", n)
         if count < 0:
             raise ValueError(f"n must be at least 0, not {count}")
-        return self.items()[:count]
+        return self.rows()[:count]
 
-    def heavy_hitters(self, threshold: Threshold = None, *, certain: bool = True) -> List[Bounds]:
-        """The rows of `items` for keys above a share of the total weight, 1/(k + 1) if none is given. With `certain` each of
-        them weighs more, since its low does, and others may too. Without, no other key weighs more, and some of these may
-        weigh less: their high is above. `report` and `confirm` tell which.
+    def heavy_hitters(self, threshold: Threshold = None, *, certain: bool) -> List[Bounds]:
+        """Those of `rows` for keys that weigh more than a share of the total, 1/(k + 1) if none is given, as far as the summary
+        tells. `certain` has to be said. With certain=True each of them weighs more, since its low does; other keys may too, and
+        are left out. With certain=False all keys that weigh more are there, since their high does; some of them may weigh less.
+        `report` and `confirm` tell which do.
 
         >>> summary = Summary.of_csv(b"a,5\\nb,2\\nc,1\\n", k=2, text=True)
-        >>> summary.items()
+        >>> summary.rows()
         [Bounds(key='a', low=4, high=5), Bounds(key='b', low=1, high=2)]
-        >>> [row.key for row in summary.heavy_hitters("1/2")], [row.key for row in summary.heavy_hitters("5/8")]
-        ([], [])
+        >>> [row.key for row in summary.heavy_hitters("1/2", certain=True)]
+        []
         >>> [row.key for row in summary.heavy_hitters("1/2", certain=False)]
         ['a']
         """
-        if not isinstance(certain, bool):
-            raise TypeError(f"certain must be True or False, not {type(certain).__name__!r}")
-        p, q = self._share(threshold)
-        least = p * self.total
-        return [row for row in self.items() if (row.low if certain else row.high) * q > least]
+        certain = flag("certain", certain)
+        saved = self.to_bytes()
+        info = self._told(saved)
+        p, q = self._share(threshold, info.k or 0)
+        least = p * info.total
+        return [row for row in self._by_key(saved).values() if (row.low if certain else row.high) * q > least]
 
-    def _share(self, threshold: Threshold) -> Tuple[int, int]:
+    def _share(self, threshold: Threshold, k: int) -> Tuple[int, int]:
         """A share of at least 1/(k + 1), which is that of no threshold."""
         p, q = share_of(threshold)
         if not p:
-            return 1, self.k + 1
-        if p * (self.k + 1) < q:
+            return 1, k + 1
+        if p * (k + 1) < q:
             raise HeavyError(USAGE, BAD_THRESHOLD, 0, 0)
         return p, q
 
     def to_frame(self) -> Any:
-        """The rows of `items` as a frame of pandas, with the columns key, low and high."""
-        return importlib.import_module("pandas").DataFrame(self.items(), columns=[*Bounds._fields])
+        """What `rows` has, as a frame of pandas with the columns key, low and high."""
+        return importlib.import_module("pandas").DataFrame(self.rows(), columns=[*Bounds._fields])
 
     def entries(self) -> List[Tuple[Any, int]]:
         """The keys that have a counter, by rising key, each with its counter.
@@ -586,7 +727,8 @@ class Summary(_File):
         >>> Summary.of_csv(b"b,5\\na,2\\n").entries()
         [(b'a', 2), (b'b', 5)]
         """
-        return [(self._key(key), counter) for key, counter in _entries(self.to_bytes())]
+        text = self.text
+        return [(_key(key, text), counter) for key, counter in _entries(self.to_bytes())]
 
     def __repr__(self) -> str:
         """What is in the summary, or how its file is refused.
@@ -595,9 +737,26 @@ class Summary(_File):
         (<heavy.Summary k=100 total=5 keys=1 slack=0>, <heavy.Summary file 1: truncated>)
         """
         try:
-            return f"<heavy.Summary k={self.k} total={self.total} keys={len(self)} slack={self.slack}>"
+            info = self._told()
+            return f"<heavy.Summary k={info.k} total={info.total} keys={info.keys} slack={info.slack}>"
         except HeavyError as refused:
             return f"<heavy.Summary {refused}>"
+
+    def _repr_html_(self) -> str:
+        """The first rows, as a notebook shows them."""
+        saved, text = self.to_bytes(), self.text
+        try:
+            info, rows = self._told(saved), [*self._by_key(saved).values()]
+        except HeavyError:
+            return f"<p>{html.escape(repr(self))}</p>"
+        lines = ""
+        for row in rows[:_SHOWN]:
+            key = html.escape(row.key if text else row.key.decode("utf-8", "backslashreplace"))
+            lines += f"<tr><td>{key}</td><td>{row.low}</td><td>{row.high}</td></tr>"
+        left = f", the first {_SHOWN} of them" if len(rows) > _SHOWN else ""
+        told = f"k={info.k} total={info.total} keys={info.keys}{left} slack={info.slack}"
+        head = "<thead><tr><th>key</th><th>low</th><th>high</th></tr></thead>"
+        return f"<table><caption>heavy.Summary {told}</caption>{head}<tbody>{lines}</tbody></table>"
 
     def confirm(self, records: Records, threshold: Threshold = None, *, layout: Layout = PLAIN) -> List[Row]:
         """The exact report of the summary's keys that are heavy in these records, which are those that were summarised:
@@ -615,8 +774,9 @@ class Summary(_File):
         >>> Summary.of_csv(b"a,5\\nb,2\\n", k=2).confirm_csv(b"a,5\\nb,2\\n", "1/2")
         b'a,5\\n'
         """
-        share = share_of(threshold)
-        return self._confirmed(records_in(records), share, layout)
+        share, text = share_of(threshold), records_in(records)
+        with placing(records, text, layout):
+            return self._confirmed(text, share, layout)
 
     def _confirmed(self, text: bytes, share: Tuple[int, int], layout: Layout) -> bytes:
         """The rows of a report of records."""
@@ -631,17 +791,19 @@ class Summary(_File):
         b'a,1\\nothers,2\\n'
         """
         text = records_in(records)
-        return answer(calls.heavy_condense_records, *lent(self.to_bytes()), *lent(text), *layout._words(), guess=SMALL)
+        words = (*lent(self.to_bytes()), *lent(text), *layout._words())
+        with placing(records, text, layout):
+            return answer(calls.heavy_condense_records, *words, guess=SMALL)
 
     def confirm_items(
-        self, keys: Keys, weights: Iterable[int] | None = None, threshold: Threshold = None
+        self, keys: Keys, weights: Iterable[int] | None = None, threshold: Threshold = None, *, skip_zero: bool = False
     ) -> List[Row]:
         """What `confirm` gives of items in memory, which are as `update_many` takes them.
 
         >>> Summary.of_csv(b"a,5\\nb,2\\n", k=2).confirm_items(["a", "b", "a"], [4, 2, 1])
         [Row(key=b'a', weight=5)]
         """
-        return self._confirm(items_of(keys, weights, ANY), share_of(threshold))
+        return self._confirm(items_of(keys, weights, ANY, flag("skip_zero", skip_zero)), share_of(threshold))
 
     def _confirm(self, items: Items, share: Tuple[int, int]) -> List[Row]:
         """The report of items that were checked."""
@@ -652,7 +814,7 @@ class Summary(_File):
         words = (*lent(self.to_bytes()), *lent_items(items.columns, items.weights))
         return answer(calls.heavy_condense_items_by, *words, ctypes.byref(HashWords(random_words())), guess=SMALL)
 
-    def condense_items(self, keys: Keys, weights: Iterable[int] | None = None) -> bytes:
+    def condense_items(self, keys: Keys, weights: Iterable[int] | None = None, *, skip_zero: bool = False) -> bytes:
         """What `condense` gives of items in memory, which are as `update_many` takes them: so a second pass goes over
         parts of a stream, and what comes of them is confirmed together, joined in any order.
 
@@ -660,7 +822,12 @@ class Summary(_File):
         >>> summary.confirm(summary.condense_items(["a", "b"], [3, 2]) + summary.condense_items({"a": 2}))
         [Row(key=b'a', weight=5)]
         """
-        return self._condensed(items_of(keys, weights, ANY))
+        return self._condensed(items_of(keys, weights, ANY, flag("skip_zero", skip_zero)))
+
+
+def _key(key: bytes, text: bool) -> Any:
+    """A key as it comes back."""
+    return text_of_bytes(key) if text else key
 
 
 class _Rows(NamedTuple):
@@ -729,6 +896,34 @@ class Table(_File):
         """
         return int(self._told().depth or 0)
 
+    @classmethod
+    def for_error(cls, error: Any, chance: Any, *, seed: int = 0) -> Table:
+        """The table of no items whose estimate of a key is more than this share of the total too high with at most this chance,
+        by the textbook: a width of e / error and a depth of ln(1 / chance), rounded up. Nothing here proves that; what is proved is
+        that no estimate is below the weight. Both are given as a threshold is, or as any float. Where the width or the depth
+        would be too large, that is a `ValueError` with it.
+
+        >>> Table.for_error("1/100", "1/100")
+        <heavy.Table width=272 depth=5 total=0>
+        """
+        shares = error_of("error", error), error_of("chance", chance)
+        width, depth = math.ceil(math.e / shares[0]), max(math.ceil(-math.log(shares[1])), 1)
+        if width > _WIDEST:
+            raise ValueError(f"an error of {error} wants a width of {width}, and the largest is {_WIDEST}")
+        if depth > _DEEPEST:
+            raise ValueError(f"a chance of {chance} wants a depth of {depth}, and the largest is {_DEEPEST}")
+        return cls(width=width, depth=depth, seed=seed)
+
+    @property
+    def error(self) -> float:
+        """By what share of the total an estimate may be too high, but for a chance of exp(-depth): e / width. That is the
+        textbook's, and nothing here proves it.
+
+        >>> round(Table(width=1000).error, 6)
+        0.002718
+        """
+        return math.e / self.width
+
     def estimate(self, key: Key) -> int:
         """The least of the key's cells: at least its weight.
 
@@ -744,7 +939,8 @@ class Table(_File):
         (<heavy.Table width=8 depth=2 total=0>, <heavy.Table file 1: truncated>)
         """
         try:
-            return f"<heavy.Table width={self.width} depth={self.depth} total={self.total}>"
+            info = self._told()
+            return f"<heavy.Table width={info.width} depth={info.depth} total={info.total}>"
         except HeavyError as refused:
             return f"<heavy.Table {refused}>"
 
@@ -778,7 +974,8 @@ def merge(first: File | Iterable[File], *others: File) -> File:
             raise TypeError(f"files[{index}] must be a Summary or a Table, not {type(file).__name__!r}")
     if not listed:
         raise ValueError("there is no file to merge")
-    files = [file.to_bytes() for file in listed]
+    with reading([file._lock for file in listed]):
+        files = [file.to_bytes() for file in listed]
     sizes = [len(file) for file in files]
     return listed[0]._like(answer(calls.heavy_merge, *joined(files), guess=max(min(sum(sizes), LARGE), max(sizes))))
 
@@ -813,13 +1010,19 @@ def report_csv(
         raise ValueError("there must be a worker")
     share = share_of(threshold)
     whole = records_in(records)
-    parts = parts_of(whole, min(count, 64), layout)
+    with placing(records, whole, layout):
+        return _reported(whole, word("k", k), share, min(count, 64), layout)
+
+
+def _reported(whole: bytes, k: int, share: Tuple[int, int], count: int, layout: Layout) -> bytes:
+    """The rows of a report of a text, which so many threads read in parts."""
+    parts = parts_of(whole, count, layout)
     if len(parts) == 1:
-        return answer(calls.heavy_report, *lent(whole), *layout._words(), word("k", k), *share, guess=SMALL)
+        return answer(calls.heavy_report, *lent(whole), *layout._words(), k, *share, guess=SMALL)
     try:
         with ThreadPoolExecutor(len(parts)) as pool:
             summary = merge(pool.map(lambda part: Summary.of_csv(part, k, layout=layout), parts))
             condensed = b"".join(pool.map(lambda part: summary.condense(part, layout=layout), parts))
-        return summary.confirm_csv(condensed, threshold, layout=Layout(decimals=layout.decimals))
+        return summary._confirmed(condensed, share, Layout(decimals=layout.decimals))
     except HeavyError:  # told again with the number that the record has among all
-        return report_csv(whole, k, threshold, layout=layout)
+        return _reported(whole, k, share, 1, layout)

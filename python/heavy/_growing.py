@@ -10,8 +10,8 @@ _NUMBERS = [c_uint64(number) for number in range(MAX_KEY + 1)]  # made once: to 
 
 
 class Growing:
-    """The value of a saved file, whose memory is given back when this object goes. Its calls keep Python's lock, so that no
-    two of them are lent it at once."""
+    """The value of a saved file, whose memory is given back when this object goes. Who makes a call holds the mutex of the file
+    that has it, so that no two calls are lent it at once."""
 
     def __init__(self, saved: bytes) -> None:
         self._fault = Fault()
@@ -27,6 +27,7 @@ class Growing:
         self._saved = None
         number = _NUMBERS[weight] if weight <= MAX_KEY else c_uint64(weight)
         status = calls.heavy_update(value, key, _NUMBERS[len(key)], number, fault)
+        self._saved = None  # also where a signal came between, whose handler asked for the saved file
         if status != DONE:
             checked(status, self._fault)
 

@@ -1,12 +1,15 @@
 """The calls of libheavy.so.1, why they refuse, and the rooms that their answers are written to."""
 from __future__ import annotations
 
+import contextlib
 import ctypes
 import operator
 import os
 import secrets
 from pathlib import Path
 from typing import Any, Callable
+
+from ._faults import Cause, Kind
 
 _VERSION = 1
 DONE, USAGE, REFUSED, TOO_SMALL = 0, 2, 3, 5
@@ -18,24 +21,56 @@ MAX_KEY, MAX_TOTAL = 4096, 2**63 - 1
 SMALL, LARGE = 1 << 16, 1 << 20  # bytes of rooms that are tried first
 
 
+_KINDS, _CAUSES = {kind.value for kind in Kind}, {cause.value for cause in Cause}
+
+
 class HeavyError(ValueError):
     """A refusal by the library: of a record, a saved file, an option such as k, or for want of memory.
 
-    Its text is the program's, and `status` the program's exit status: 2 an option, 3 a record, a file or a key, 4 memory.
-    `number` is that of the record, the file or the key, from 1 on, or 0. `part` is the path, or else the number from 0 on,
-    of the part of a collection of Dask whose records are refused, or None.
+    Its text is the program's, in Python's words, and `status` the program's exit status: 2 an option, 3 a record, a file or a
+    key, 4 memory. `kind` is a `Kind`, and `cause` a `Cause`, or None where the kind says all. `number` is that of the record,
+    the file or the key, from 1 on, or 0. The others are None where there is nothing to tell: `path` names the file of a record,
+    `line` is the line from 1 on where the record begins, and from Python 3.11 on a note has both. `part` is the path, or else the number from 0 on,
+    of the part of a collection of Dask whose records are refused. `added` is how many items of an `update_many` by batches are
+    added all the same.
     """
 
+    path: Any = None
+    line: int | None = None
     part: Any = None
+    added: Any = None
 
     def __init__(self, status: int, kind: int, cause: int, number: int) -> None:
         self.status = status
+        self.kind = Kind(kind) if kind in _KINDS else None
+        self.cause = Cause((kind, cause)) if (kind, cause) in _CAUSES else None
         self.number = number
-        super().__init__(_text_of(Fault(kind, cause, number)))
+        text = _text_of(Fault(kind, cause, number))
+        super().__init__(text.replace("--header", "header=True").replace("one byte or \\t,", "one byte,"))
         self.numbers = (status, kind, cause, number)
 
     def __reduce__(self) -> tuple[type[HeavyError], tuple[int, int, int, int], dict[str, Any]]:
         return HeavyError, self.numbers, self.__dict__
+
+
+def added_so_far(added: int) -> str:
+    """What is said of a call whose first items are added."""
+    return f"the first {added} items of this call are added, and no other"
+
+
+def say_added(raised: BaseException, added: int) -> None:
+    """Has what was raised within a call say how many of the call's items are added: as `added`, and where there are some in a
+    note, if the text doesn't say it."""
+    with contextlib.suppress(AttributeError):
+        setattr(raised, "added", added)
+    if added and added_so_far(added) not in str(raised):
+        say(raised, added_so_far(added))
+
+
+def say(raised: BaseException, told: str) -> None:
+    """Gives what was raised a note, from Python 3.11 on, which has notes."""
+    if hasattr(raised, "add_note"):
+        raised.add_note(told)
 
 
 class Fault(ctypes.Structure):
@@ -131,13 +166,14 @@ def _type_calls(library: ctypes.CDLL) -> None:
 
 
 def _type_calls_on_growing(library: ctypes.CDLL) -> None:
-    """Gives the calls on a value that grows their types. They keep Python's lock: no two threads use one value at once, and a
-    thread that adds items doesn't wait for the others at each."""
+    """Gives the calls on a value that grows their types. Other threads run while one is opened or saved. To add an item takes
+    less than to wait for them, so that call keeps Python's lock, where there is one. `_lock` keeps two threads from one value."""
     growing = ctypes.POINTER(GrowingWords)
+    library.heavy_open_by.argtypes = [_READ, _SIZE, ctypes.POINTER(HashWords), growing, _FAULT]
+    library.heavy_save.argtypes = [growing, *_OUT]
+    library.heavy_open_by.restype = library.heavy_save.restype = ctypes.c_uint32
     words: dict[str, list[Any]] = {
-        "heavy_open_by": [_READ, _SIZE, ctypes.POINTER(HashWords), growing, _FAULT],
         "heavy_update": [],  # Python would take longer to compare the arguments with their types than to add an item
-        "heavy_save": [growing, *_OUT],
         "heavy_free": [growing],
     }
     for name, kinds in words.items():
@@ -160,6 +196,19 @@ def integer(name: str, number: Any) -> int:
     if not hasattr(number, "__index__"):
         raise TypeError(f"{name} must be an integer, not {type(number).__name__!r}")
     return operator.index(number)
+
+
+def is_flag(value: Any) -> bool:
+    """Whether this is a truth value, of Python or of numpy."""
+    kind = type(value)
+    return kind is bool or kind.__module__ == "numpy" and kind.__name__ in ("bool", "bool_")
+
+
+def flag(name: str, value: Any) -> bool:
+    """A truth value as Python has it."""
+    if not is_flag(value):
+        raise TypeError(f"{name} must be True or False, not {type(value).__name__!r}")
+    return bool(value)
 
 
 def word(name: str, number: Any) -> int:

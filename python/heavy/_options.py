@@ -1,17 +1,21 @@
 """How records are laid out, and above which share of the total keys are heavy."""
 from __future__ import annotations
 
+import contextlib
 import ctypes
 import functools
+import itertools
+import numbers
 import re
 from dataclasses import dataclass, fields
 from decimal import Decimal
 from fractions import Fraction
-from typing import Any, Optional, Sequence, Tuple, Union
+from typing import Any, Optional, Sequence, SupportsFloat, Tuple, Union
 
-from ._library import BAD_DELIMITER, BAD_THRESHOLD, USAGE, HeavyError, LayoutWords, integer, joined, random_words, word
+from ._library import BAD_DELIMITER, BAD_THRESHOLD, USAGE, HeavyError, LayoutWords, flag, integer, is_flag, joined
+from ._library import random_words, word
 
-Threshold = Union[None, str, Fraction, Decimal, float, Tuple[int, int]]
+Threshold = Union[None, str, Fraction, Decimal, float, SupportsFloat, Tuple[int, int]]
 Column = Union[int, str, bytes]
 
 _MARK = b"\xef\xbb\xbf"
@@ -21,8 +25,8 @@ _MOST = 2**32  # the largest q of a share p/q
 def share_of(threshold: Threshold) -> tuple[int, int]:
     """The share p/q that a threshold is, or 0 and 0 for none.
 
-    >>> share_of("1/10"), share_of(0.25), share_of(None)
-    ((1, 10), (1, 4), (0, 0))
+    >>> share_of("1/10"), share_of("0.1"), share_of("10%"), share_of(0.25), share_of(None)
+    ((1, 10), (1, 10), (1, 10), (1, 4), (0, 0))
     >>> share_of(0.1)
     Traceback (most recent call last):
     ValueError: the threshold 0.1 is not exactly 1/10; write '1/10' or Fraction(1, 10)
@@ -34,7 +38,7 @@ def share_of(threshold: Threshold) -> tuple[int, int]:
             raise ValueError(f"a threshold is a pair (p, q), not {len(threshold)} numbers")
         p, q = word("p", threshold[0]), word("q", threshold[1])
     elif isinstance(threshold, str):
-        p, q = _share_of_text(threshold)
+        p, q = _share_of_text("a threshold", threshold)
     else:
         share = _fraction_of(threshold)
         p, q = share.numerator, share.denominator
@@ -43,32 +47,58 @@ def share_of(threshold: Threshold) -> tuple[int, int]:
     return p, q
 
 
-def _share_of_text(text: str) -> tuple[int, int]:
-    """The numbers of a text P/Q, as the program takes it."""
+def _share_of_text(name: str, text: str) -> tuple[int, int]:
+    """The numbers of a text P/Q, or of one with a point or a percent sign, which is exact too."""
     if re.fullmatch(r"[0-9]+/[0-9]+", text):
         p, q = text.split("/")
         return int(p), int(q)
-    try:
-        meant = Fraction(text[:-1]) / 100 if text.endswith("%") else Fraction(text)
-    except ValueError:
-        raise ValueError(f"a threshold is a text 'P/Q', not {text!r}") from None
-    raise ValueError(f"a threshold is a text 'P/Q', not {text!r}; write '{meant}'")
+    if not re.fullmatch(r"([0-9]+\.?[0-9]*|\.[0-9]+)%?", text):
+        raise ValueError(f"{name} is a text as '1/4', '0.25' or '25%', not {text!r}")
+    share = Fraction(text[:-1]) / 100 if text.endswith("%") else Fraction(text)
+    return share.numerator, share.denominator
+
+
+def error_of(name: str, share: Any) -> Fraction:
+    """A share above 0 and at most 1, in all ways in which a threshold is given, and any float as the number that it is."""
+    p, q = 0, 1
+    if isinstance(share, str):
+        p, q = _share_of_text(f"the {name}", share)
+    elif isinstance(share, tuple) and len(share) == 2:
+        p, q = integer("p", share[0]), integer("q", share[1])
+    elif isinstance(share, numbers.Rational) and not is_flag(share):
+        p, q = int(share.numerator), int(share.denominator)
+    elif isinstance(share, (numbers.Real, Decimal)) and not is_flag(share):
+        with contextlib.suppress(ValueError, OverflowError):
+            p, q = Fraction(share if isinstance(share, Decimal) else float(share)).as_integer_ratio()
+    if not 0 < p <= q:
+        raise ValueError(f"{name} must be a share above 0 and at most 1, as '1/1000', not {share!r}")
+    return Fraction(p, q)
 
 
 def _fraction_of(threshold: Any) -> Fraction:
     """The fraction that a number is. A float that is none with a small denominator is refused."""
-    if isinstance(threshold, bool) or not isinstance(threshold, (int, float, Fraction, Decimal)):
+    if is_flag(threshold) or not isinstance(threshold, (numbers.Real, Decimal)):
         raise TypeError(f"a threshold is a text 'P/Q', a pair, a Fraction or a float, not {type(threshold).__name__!r}")
     try:
-        share = Fraction(threshold)
+        if isinstance(threshold, Decimal):
+            return Fraction(threshold)
+        if isinstance(threshold, numbers.Rational):
+            return Fraction(int(threshold.numerator), int(threshold.denominator))
+        rounded = float(threshold)
+        share = Fraction(rounded)
     except (ValueError, OverflowError):
         raise ValueError(f"a threshold is a share, not {threshold!r}") from None
-    if isinstance(threshold, float) and share.denominator > _MOST:
-        meant = share.limit_denominator(10**6)
-        if float(meant) == threshold:
-            raise ValueError(f"the threshold {threshold} is not exactly {meant}; write '{meant}' or {meant!r}")
+    meant = share.limit_denominator(10**6)
+    if meant != share and _is_rounded(meant, threshold):
+        raise ValueError(f"the threshold {threshold} is not exactly {meant}; write '{meant}' or {meant!r}")
+    if share.denominator > _MOST or rounded != threshold:
         raise ValueError(f"the threshold {threshold} is no fraction with a small denominator; write it as 'P/Q'")
     return share
+
+
+def _is_rounded(meant: Fraction, threshold: Any) -> bool:
+    """Whether a fraction, as a number of the threshold's kind, is the threshold."""
+    return bool(type(threshold)(float(meant)) == threshold)
 
 
 @dataclass(frozen=True, repr=False)
@@ -96,8 +126,7 @@ class Layout:
 
     def __post_init__(self) -> None:
         for name in ("header", "allow_zero"):
-            if not isinstance(getattr(self, name), bool):
-                raise TypeError(f"{name} must be True or False, not {type(getattr(self, name)).__name__!r}")
+            object.__setattr__(self, name, flag(name, getattr(self, name)))
         object.__setattr__(self, "decimals", integer("decimals", self.decimals))
         if not 0 <= self.decimals <= 9:
             raise ValueError(f"decimals must be 0 to 9, not {self.decimals}")
@@ -140,6 +169,13 @@ class Layout:
         record, _ = _patterns(self._separator)
         return record.findall(part[len(_MARK) :] if part.startswith(_MARK) else part)
 
+    def _line_of(self, part: bytes, number: int) -> int | None:
+        """The line on which the record of a part of a text begins that has this number, from 1 on, with a header among them."""
+        record, _ = _patterns(self._separator)
+        begin = len(_MARK) if part.startswith(_MARK) else 0
+        found = next(itertools.islice(record.finditer(part, begin), number - 1, None), None)
+        return None if found is None else lines_in(part[: found.start()]) + 1
+
     def _count(self, part: bytes) -> int:
         """How many records a part of a text has. Where a quote stands only at a field's ends or twice in one, each other
         run between quotes is outside them, and its lines are records."""
@@ -158,6 +194,11 @@ class Layout:
         record, _ = _patterns(self._separator)
         found = record.search(part, len(_MARK) if part.startswith(_MARK) else 0) if self.header else None
         return found[0] if found else b""
+
+
+def lines_in(text: bytes) -> int:
+    """How many lines end in a text, by CR, LF or both."""
+    return text.count(b"\n") + text.count(b"\r") - text.count(b"\r\n")
 
 
 def _column(name: str, column: Any) -> bytes:

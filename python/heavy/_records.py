@@ -1,21 +1,24 @@
 """Records as they are read: buffers, open files and named ones, whole or in parts; and the rows that a report prints."""
 from __future__ import annotations
 
+import contextlib
 import io
 import os
 import re
 from decimal import Decimal
-from typing import Any, BinaryIO, Callable, Iterator, NamedTuple, Union
+from typing import Any, BinaryIO, Callable, Iterator, NamedTuple, NoReturn, Union
 
 from . import _columns
-from ._library import BAD_RECORD, SMALL, HeavyError, answer, calls, lent
-from ._options import Layout
+from ._faults import Kind
+from ._library import BAD_RECORD, SMALL, HeavyError, answer, calls, lent, say
+from ._options import Layout, lines_in
 
 Given = Union[bytes, bytearray, memoryview, BinaryIO]
 Named = Union[str, "os.PathLike[str]"]
 Records = Union[Given, Named]
 
 _FIRST, _CHUNK = 1 << 24, 1 << 20  # bytes of a file of records that are read at first, and then at a time
+_NO_NUMBER = "an Interval is no number, but the two bounds of a weight; take its low or its high"
 _ROW = re.compile(rb'(?:"((?:[^"]|"")*)"|([^",\r\n]*)),([0-9.]+)\n')
 
 
@@ -24,6 +27,34 @@ class Row(NamedTuple):
 
     key: Any
     weight: Any
+
+
+class Interval(NamedTuple):
+    """The least and the most that a key can weigh, ordered by the least and then by the most. It is no number: a sum or a
+    difference with it, as a Counter makes them, is a `TypeError` that says what to take.
+
+    >>> summary = Summary.of_csv(b"a,5\\nb,2\\n", k=1)
+    >>> summary["a"]
+    Interval(low=3, high=5)
+    >>> sum(summary.values())
+    Traceback (most recent call last):
+    TypeError: an Interval is no number, but the two bounds of a weight; take its low or its high
+    """
+
+    low: int
+    high: int
+
+    def __add__(self, other: object) -> NoReturn:
+        raise TypeError(_NO_NUMBER)
+
+    def __radd__(self, other: object) -> NoReturn:
+        raise TypeError(_NO_NUMBER)
+
+    def __sub__(self, other: object) -> NoReturn:
+        raise TypeError(_NO_NUMBER)
+
+    def __rsub__(self, other: object) -> NoReturn:
+        raise TypeError(_NO_NUMBER)
 
 
 class Bounds(NamedTuple):
@@ -113,20 +144,44 @@ def with_text(saved: bytes, text: bytes, layout: Layout) -> bytes:
 def with_records(saved: bytes, records: Records, layout: Layout, begun: Callable[[bytes], bytes] | None) -> bytes:
     """A saved file with records added, or the refusal of the first bad one, by its number among all. Where the file has no
     items, `begun` makes it of the first part at once."""
-    before, header = 0, b""
+    before, lines, header, last = 0, 0, b"", b""
     for part in parts_read(records, layout):
+        lines -= last == b"\r" and part[:1] == b"\n"  # one line's end, in two parts
         text = header + part
-        if begun is not None:
-            saved, begun = begun(text), None
-            header, before = layout._header_of(part), layout._count(text) - (1 if layout._header_of(part) else 0)
-            continue
         try:
-            saved = with_text(saved, text, layout)
+            saved, begun = with_text(saved, text, layout) if begun is None else begun(text), None
         except HeavyError as refused:
-            raise _among_all(saved, text, before, refused, layout) from None
+            told = refused if begun is not None else _among_all(saved, text, before, refused, layout)
+            raise placed(told, records, part, layout, before, lines, not header) from None
         header = header or layout._header_of(part)
         before += layout._count(text) - (1 if header else 0)
+        lines, last = lines + lines_in(part), part[-1:]
     return saved
+
+
+def placed(
+    refused: HeavyError, records: Records, part: bytes, layout: Layout, before: int = 0, lines: int = 0, first: bool = True
+) -> HeavyError:
+    """The refusal of records that says where the bad one stands, in a part behind so many records and lines."""
+    if refused.kind is Kind.BAD_RECORD:
+        found = layout._line_of(part, refused.number - before + (1 if first and layout.header else 0))
+        refused.line = None if found is None else lines + found
+    if refused.kind in (Kind.BAD_RECORD, Kind.NO_COLUMN):
+        refused.path = records if isinstance(records, (str, os.PathLike)) else None
+        place = [] if refused.path is None else [os.fsdecode(refused.path)]
+        place += [] if refused.line is None else [f"line {refused.line}"]
+        say(refused, ", ".join(place)) if place else None
+    return refused
+
+
+@contextlib.contextmanager
+def placing(records: Records, text: bytes, layout: Layout) -> Iterator[None]:
+    """Has a refusal of records, which are this text, say where the bad one stands."""
+    try:
+        yield
+    except HeavyError as refused:
+        placed(refused, records, text, layout)
+        raise
 
 
 def _among_all(saved: bytes, text: bytes, before: int, refused: HeavyError, layout: Layout) -> HeavyError:

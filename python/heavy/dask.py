@@ -37,7 +37,7 @@ def summary(
     where all went in so, or as `text` says.
 
     >>> import dask.bag
-    >>> summary(dask.bag.from_sequence("abcab", npartitions=3), k=5).items()
+    >>> summary(dask.bag.from_sequence("abcab", npartitions=3), k=5).rows()
     [Bounds(key='a', low=2, high=2), Bounds(key='b', low=2, high=2), Bounds(key='c', low=1, high=1)]
     """
     Summary(k=k)  # refuses a wrong k before anything is computed
@@ -81,7 +81,7 @@ def _two_passes(
     """The summary of a collection, and fewer records that confirm the same."""
     share_of(threshold)
     whole = summary(collection, key, weight, k, layout=layout, text=text)
-    whole._share(threshold)
+    whole._share(threshold, k)
     parts = _parts(collection, key, weight)
     # the bytes go out with each task: fetched from a worker that is lost, they would be waited for
     return whole, b"".join(_computed(_each(_condense, parts, key, weight, whole.to_bytes(), layout)))

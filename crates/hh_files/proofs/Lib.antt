@@ -1,3 +1,4 @@
+pub mod CondenseFacts
 pub mod ConfirmFacts
 pub mod FilePassFacts
 pub mod FilePieceFacts

@@ -88,8 +88,8 @@ pub(crate) fn line_at(
     ensures end { result.1 ≡ spec.line_end text.now from }
     ensures after { from ≤ result.1 }
     ensures within { result.1 ≤ length text.now }
-    ensures parts { option_map (λ parts. (parts.0.now, option_map (λ field. field.now) parts.1)) result.0
-        ≡ parts_in_line (Pair delimiter) (slice_range text.now from result.1) }
+    ensures parts { option_map (λ parts. (parts.0.now, option_map (λ field. field.now) parts.1))
+        result.0 ≡ parts_in_line (Pair delimiter) (slice_range text.now from result.1) }
 {
     let key_end = field_end(text, from, delimiter);
     if key_end == text.len() || text[key_end] != delimiter {

@@ -38,8 +38,8 @@ fn part_in<'f>(part: &KeyPart, field: &'f [u8]) -> &'f [u8]
     }
 }
 
-/// Gives the key and the weight's field of a line with a `part` of the key in its place, which is the
-/// whole of it where it `is_whole`.
+/// Gives the key and the weight's field of a line, with a `part` of the key in its place. The part
+/// is the whole key where it `is_whole`.
 #[inline(always)]
 pub(crate) fn key_parts<'t>(
     parts: Option<(&'t [u8], Option<&'t [u8]>)>,

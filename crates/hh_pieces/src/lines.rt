@@ -88,8 +88,8 @@ pub(crate) fn cut_of(format: Format, delimiter: u8) -> LineCut
     }
 }
 
-/// Finds the key and the weight's field of the line that begins at `from`, which is cut by `cut`, and
-/// where it ends, in a text without CR.
+/// Finds the key and the weight's field of the line that begins at `from`, and where it ends, in a
+/// text without CR. `cut` says how the line is cut.
 #[inline(always)]
 fn plain_parts(text: &[u8], from: usize, cut: LineCut) -> (Option<(&[u8], Option<&[u8]>)>, usize)
     requires within { from ≤ length text.now }
@@ -111,8 +111,8 @@ fn plain_parts(text: &[u8], from: usize, cut: LineCut) -> (Option<(&[u8], Option
     }
 }
 
-/// Finds the key and the weight's field of the line that begins at `from`, which is cut by `cut`, and
-/// where it ends. A text that `has_no_return` is looked at once.
+/// Finds the key and the weight's field of the line that begins at `from`, and where it ends. `cut`
+/// says how the line is cut. A text that `has_no_return` is looked at once.
 fn parts_from(
     text: &[u8],
     from: usize,
@@ -136,8 +136,8 @@ fn parts_from(
     (parts, end)
 }
 
-/// Hands on what each line of a text adds, blank ones aside, which is cut by `cut`, and counts those
-/// that are `bad`. Of its key the part of `layout` counts.
+/// Hands on what each line of a text adds, blank ones aside, and counts those that are `bad`. `cut`
+/// says how a line is cut; of its key the part of `layout` counts.
 pub(crate) fn read_lines<T: TakeItems>(
     alloc: Global,
     text: &[u8],

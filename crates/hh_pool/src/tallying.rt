@@ -234,10 +234,10 @@ fn heavy_by<R: Threads + Wait + Sync, P: Pieces + Sync>(
 /// family are not used.
 ///
 /// Each worker tallies the items of the pieces that it claims, and the tallies add up (Misra and
-/// Gries 1982, in batches as Anderson et al. 2017). The weight of a key that has had a counter since
-/// before anything was lost is known then: all that was lost is what the counter lacks. Where
-/// another key can be heavy, each piece is asked for once more, and such keys are counted. `hash`
-/// decides how fast keys are found, and nothing else.
+/// Gries 1982, in batches as Anderson et al. 2017). The weight of a key that has kept its counter
+/// since before anything was lost is known then: the counter lacks just that. Where another key can
+/// be heavy, each piece is asked for once more, and such keys are counted. `hash` decides
+/// how fast keys are found, and nothing else.
 ///
 /// It starts the workers, numbered from 0, in threads of their own, and waits for them. It answers
 /// Refused where a piece was refused, or the weights of all pieces add up to more than

@@ -72,8 +72,8 @@ pub fn add_all(
 
 /// Lowers all counters if there are more keys than `room` has, or too many bytes of keys, which
 /// together have `bytes`. It gives what was taken from each counter, 0 if there is room, and how
-/// many bytes the keys that are left have. `sure` are flags of the first keys, and `rest` is that of
-/// the others; the keys that are left keep theirs. After an error `index` and `sure` are as they
+/// many bytes the keys that are left have. `sure` are flags of the first keys, and `rest` is that
+/// of the others; the keys that are left keep theirs. After an error `index` and `sure` are as they
 /// were.
 pub fn lower_if_over(
     alloc: Global,
@@ -146,8 +146,8 @@ pub fn level_in(
     Ok(level_of(&mut numbers, most))
 }
 
-/// Gives the flag of the key at `place`: `sure` are those of the first keys, and `rest` is that of the
-/// others.
+/// Gives the flag of the key at `place`: `sure` are those of the first keys, and `rest` is that of
+/// the others.
 pub fn flag_at(sure: &[bool], rest: bool, place: usize) -> bool
     ensures { (n : ℕ) → place < n → result ≡ get_or (filled sure.now rest n) place false }
 {
@@ -158,8 +158,8 @@ pub fn flag_at(sure: &[bool], rest: bool, place: usize) -> bool
     }
 }
 
-// The flags of the keys whose counter is above `t`: `sure` are those of the first keys, and `rest` is
-// that of the others.
+// The flags of the keys whose counter is above `t`: `sure` are those of the first keys, and `rest`
+// is that of the others.
 fn flags_above(
     alloc: Global,
     index: &IndexMap<Key, u64, KeyHash>,

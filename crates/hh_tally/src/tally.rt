@@ -124,8 +124,8 @@ impl Tally {
         sorted_above(alloc, &self.index, t)
     }
 
-    /// Whether the tally is sure of `key`, so that its counter lacks just what was lost: the key has
-    /// kept a counter since before anything was lost, or it never came and nothing was lost. Of a
+    /// Whether the tally is sure of `key`, so that its counter lacks just what was lost. The key
+    /// has kept a counter since before anything was lost, or never came and nothing was lost. Of a
     /// merged tally, both were sure of it.
     pub fn is_sure(&self, key: &Key) -> bool
         ensures { result ≡ is_sure self.now key.now }

@@ -177,8 +177,8 @@ fn tally_of_numbers(rt: &(impl Abort + AllocGlobal), room: Room, numbers: &[usiz
     tally
 }
 
-// A comes with a weight of 18 before five other keys, of which four are too many, or behind them; or
-// it comes with a weight of 1 before, loses its counter, and comes again.
+// A comes with a weight of 18 before five other keys, more than have room, or behind them. Or it
+// comes with a weight of 1 before, loses its counter, and comes again.
 const EARLY: &[usize] = &[0, 1, 2, 5, 6, 7, 10, 11, 12, 4, 9, 14, 19, 24];
 
 const LATE: &[usize] = &[4, 9, 14, 19, 24, 0, 1, 2, 5, 6, 7, 10, 11, 12];

@@ -1,10 +1,10 @@
-use Rattle.std.proofs.Common.{rules, inr}
+use Rattle.std.proofs.Common.{inl, inr}
 use Rattle.std.proofs.lemmas.Result.{err_from_is_err_and}
 use Rattle.hh_records.specs.Layouts.{records_known, texts_known}
 use Rattle.heavy_answers.proofs.AnswerLemmas.{of_records, planned, tallied}
 use Rattle.hh_reports.specs.Report.{PrintsRows}
 use Rattle.hh_files.specs.ReportFiles.{PrintsFileRows}
-use Rattle.heavy_answers.proofs.FormLemmas.{plain_refused, plain_written}
+use Rattle.heavy_answers.proofs.FormLemmas.{keeps_self, plain_refused, plain_written}
 use Rattle.heavy_answers.proofs.InputLemmas.{records_are_of}
 use Rattle.heavy_answers.proofs.answering.report.Goals as goal
 
@@ -50,5 +50,22 @@ returns-clause-made g c =
     (PrintsFileRows c.args.rows.now c.args.options.now (texts_known g.H.File.ReadAt.bytes files.layout files.files.items)) _ _
     (rw (c.records.ensures.layout, c.records.ensures.sources) at c.in_ok-report_files.ensures.reported)))
 
+pub returns-in_err-records-clause-refused : goal.returns-in_err-records-clause-refused
+returns-in_err-records-clause-refused g c =
+    let p = err_from_is_err_and c.from_residual.result c.from_residual.ensures.1 in
+    rw (p.1, p.2) (inl (inl c.in_err-records.ensures.refused, keeps_self (g.S.Sink.taken c.args.sink.now)))
+
+pub returns-in_err-opened-clause-refused : goal.returns-in_err-opened-clause-refused
+returns-in_err-opened-clause-refused g c =
+    let p = err_from_is_err_and c.from_residual-in_err-opened.result c.from_residual-in_err-opened.ensures.1 in
+    rw (p.1, p.2) (inl (inl c.in_err-opened.ensures.refused, keeps_self (g.S.Sink.taken c.args.sink.now)))
+
+pub returns-in_err-check_options-clause-refused : goal.returns-in_err-check_options-clause-refused
+returns-in_err-check_options-clause-refused g c =
+    let p = err_from_is_err_and c.from_residual-in_err-check_options.result c.from_residual-in_err-check_options.ensures.1 in
+    rw (p.1, p.2) (inl (inr (inl c.in_err-check_options.ensures.tests), keeps_self (g.S.Sink.taken c.args.sink.now)))
+
 pub returns-in_err-files-clause-refused : goal.returns-in_err-files-clause-refused
-returns-in_err-files-clause-refused g c = search rules
+returns-in_err-files-clause-refused g c =
+    let p = err_from_is_err_and c.from_residual-in_err-files.result c.from_residual-in_err-files.ensures.1 in
+    rw (p.1, p.2) (inl (inr (inr (c.in_ok-check_options.ensures.tests, c.in_err-files.ensures.refused)), keeps_self (g.S.Sink.taken c.args.sink.now)))

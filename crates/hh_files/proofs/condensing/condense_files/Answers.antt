@@ -2,7 +2,23 @@ use Rattle.std.proofs.lemmas.Result.{MatchResult-weaker}
 use Rattle.hh_pieces.specs.Sources.{sources_known}
 use Rattle.hh_commands.specs.declared.compared.Bounds.TheVariants as bounds
 use Rattle.hh_commands.proofs.BoundsFacts.{part_compared, part_told}
+use Rattle.hh_files.proofs.CondenseFacts.{condensing_refused, rows_condensed}
 use Rattle.hh_files.proofs.condensing.condense_files.Goals as goal
+
+pub returns-clause-rows : goal.returns-clause-rows
+returns-clause-rows g c =
+    let counted = rw c.in_ok-candidates.ensures.keys at c.in_ok-counts.ensures.counts in
+    rows_condensed _ (sources_known g.S.ReadAt.bytes c.args.records) c.in_ok-summary.summary
+    c.in_ok-summary.ensures.summary c.in_ok-counts.counts counted c.args.records.layout.now.decimals
+    c.condensed_part.result c.condensed_part.ensures.rows
+
+pub returns-clause-refused : goal.returns-clause-refused
+returns-clause-refused g c =
+    let counted = rw c.in_ok-candidates.ensures.keys at c.in_ok-counts.ensures.counts in
+    condensing_refused _ (sources_known g.S.ReadAt.bytes c.args.records) c.in_ok-summary.summary
+    c.in_ok-summary.ensures.summary c.in_ok-counts.counts counted c.args.compared.now.refuses
+    c.condensed_part.new.compared c.args.workers c.if-not-in_range.ensures c.condensed_part.result
+    c.condensed_part.ensures.refused
 
 pub returns-clause-bounds : goal.returns-clause-bounds
 returns-clause-bounds g c =
