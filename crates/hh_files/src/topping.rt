@@ -100,8 +100,9 @@ fn shortlist_of<T: Threads + Wait + Sync, S: ReadAt + Sync>(
     Ok(grown)
 }
 
-/// The weights of `candidates` in `records`, whose tally has this `total`. The records are read only
-/// if there are candidates. If the count has another total, the error is [`ToolError::ReadFault`].
+/// The weights of `candidates` in `records`, whose tally has this `total`. The records are read
+/// only if there are candidates. If the count has another total, the error is
+/// [`ToolError::ReadFault`].
 fn weights_in<T: Threads + Wait + Sync, S: ReadAt + Sync>(
     rt: &T,
     alloc: Global,

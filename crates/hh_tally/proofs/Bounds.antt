@@ -1,5 +1,5 @@
 -- Tallies bound the weights of what they took.
-use Rattle.std.proofs.Common.{◌≡◌, ℕ, ◌+◌, ◌*◌, ◌/◌, ◌<◌, ◌≤◌, Bool, true, false, cond, List, [], ◌∷◌, ◌++◌, ⊎_elim, length, refl, sym, ap, ◌∙◌, subst, append_assoc, append-nil, mul-zero, mul-le-mul_right, arith, fold, map, nat_lt}
+use Rattle.std.proofs.Common.{◌≡◌, ℕ, ◌+◌, ◌*◌, ◌/◌, ◌<◌, ◌≤◌, Bool, true, false, cond, List, [], ◌∷◌, ◌++◌, ⊎_elim, length, refl, sym, ap, ◌∙◌, subst, append_assoc, append-nil, mul-zero, mul-le-mul_right, arith, fold, nat_lt}
 use Rattle.std.specs.Prelude.{◌||◌, ◌&&◌, ◌==◌, max}
 use Rattle.std.specs.List.{AllByRecursion, IsDistinct}
 use Rattle.std.specs.Map.{keys_of}

@@ -1,8 +1,8 @@
 -- The contenders of a tally make the report, and its greatest counters a summary.
-use Rattle.std.proofs.Common.{◌≡◌, ℕ, suc, ◌+◌, ◌-◌, ◌*◌, ◌/◌, ◌^◌, ◌<◌, ◌≤◌, ⊎_elim, Bool, true, List, [], ◌∷◌, length, cond, refl, sym, ap, ◌∙◌, subst, mul-add, mul_assoc, mul_comm, mul-le-mul_left, mul-le-mul_right, arith, filter, nat_lt, zip, Contains}
+use Rattle.std.proofs.Common.{◌≡◌, ℕ, ◌+◌, ◌-◌, ◌*◌, ◌/◌, ◌^◌, ◌<◌, ◌≤◌, ⊎_elim, Bool, true, List, [], ◌∷◌, length, cond, refl, sym, ap, ◌∙◌, subst, mul-add, mul_assoc, mul_comm, mul-le-mul_left, mul-le-mul_right, arith, filter, nat_lt, zip, Contains}
 use Rattle.std.specs.List.{AllByRecursion}
 use Rattle.std.specs.List.Sorted.{IsStrictlySortedBy}
-use Rattle.std.specs.Map.{keys_of, values_of}
+use Rattle.std.specs.Map.{keys_of}
 use Rattle.std.proofs.Math.Nat.{div-lt_iff_lt-mul}
 use Rattle.std.proofs.lemmas.Bool.{cases_lt, cond_both}
 use Rattle.std.proofs.lemmas.Bool.Decides.{nat_tests}
@@ -12,10 +12,9 @@ use Rattle.hh_summaries.specs.Report.{has_counter, heavy, rows_above, weights_at
 use Rattle.hh_summaries.proofs.Weights.{positive_in, number_from_in, in_from_number, rising-tally, weight_of-tally, total_of-tally, total_of-cons, counters-tally}
 use Rattle.hh_summaries.proofs.Level.{is_level, length-lower, weight_of-lower, total_of-lower-le, counters-lower}
 use Rattle.hh_summaries.proofs.Summaries.{total_of-cut}
-use Rattle.hh_summaries.proofs.Reports.{in_heavy, in_filter, filter_in, filter_all, rising-filter, counters-filter, report_with_counters}
+use Rattle.hh_summaries.proofs.Reports.{in_heavy, filter_in, filter_all, rising-filter, counters-filter, report_with_counters}
 use Rattle.hh_tally.specs.Tallies.{TallyView, AreBounds, IsLoss, IsTally, can_exceed, contenders_of}
 use Rattle.hh_tally.specs.declared.room.Room.{Room}
-use Rattle.hh_tally.proofs.Bounds.{exact_weights}
 
 -- ---- the contenders
 -- two tests that agree on all of some entries leave the same

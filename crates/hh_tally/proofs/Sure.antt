@@ -3,7 +3,6 @@ use Rattle.std.proofs.Common.{◌≡◌, ℕ, ◌+◌, ◌-◌, ◌<◌, ◌≤�
 use Rattle.std.specs.Prelude.{◌==◌, unwrap_or}
 use Rattle.std.specs.List.{AllByRecursion, IsDistinct}
 use Rattle.std.specs.Map.{keys_of, lookup, values_of}
-use Rattle.std.proofs.lemmas.Bool.{cond_both}
 use Rattle.std.proofs.lemmas.Grind.{replicate_next}
 use Rattle.std.proofs.lemmas.List.{length-append, length-replicate, map-append, get_or_append_left, get_or-append_right, get_or-replicate, get_or-map}
 use Rattle.std.proofs.lemmas.Map.Entries.{length-keys_of}
@@ -13,7 +12,7 @@ use Rattle.indexmap.proofs.MapLemmas.{Found-position}
 use Rattle.hh_stream.specs.Weights.{Bytes, Entry, same_key, weight_of}
 use Rattle.hh_summaries.proofs.Weights.{Distinct, at_here, same_exact, same_self, same_sym, weight_of-cons}
 use Rattle.hh_tally.specs.Tallies.{AreFlags, TallyView, add_in, filled, is_sure}
-use Rattle.hh_tally.proofs.Raising.{by_add_in, length-add_in}
+use Rattle.hh_tally.proofs.Raising.{by_add_in}
 
 -- ---- flags
 -- one for each key needs no filling up

@@ -93,8 +93,9 @@ impl Shortlist {
         self.most.max(self.counter.saturating_sub(1))
     }
 
-    /// The counters of the keys that can be among the `n` greatest: those of the tally that can weigh
-    /// more than what a key without a counter can, and no less than the n-th greatest counter.
+    /// The counters of the keys that can be among the `n` greatest: those of the tally that can
+    /// weigh more than what a key without a counter can, and no less than the n-th greatest
+    /// counter.
     fn chosen(&self, alloc: Global) -> Result<Vec<(Key, u64)>, AllocError>
         ensures entries { IfOk result (λ entries. entries.items ≡ chosen_of self.now) }
         ensures few { IfOk result (λ entries. length entries.items ≤ self.now.k) }
@@ -125,8 +126,9 @@ impl Shortlist {
     /// [`choice`](Shortlist::choice) were `counted` in the same items.
     ///
     /// They are certain where `n` keys weigh more than what a key can that isn't among the chosen,
-    /// or where no such key weighs anything. Else the refusal has how many keys weigh more than that,
-    /// and that weight. Where the list [`stands_out`](Shortlist::stands_out) they are never refused.
+    /// or where no such key weighs anything. Else the refusal has how many keys weigh more than
+    /// that, and that weight. Where the list [`stands_out`](Shortlist::stands_out) they are never
+    /// refused.
     pub fn greatest(&self, alloc: Global, counted: &[u64]) -> Result<Vec<Heavy>, ToolError>
         requires counted { length counted.now ≡ length (counted_of self.now) }
         ensures rows { IfOk result (λ rows. (xs : List Entry) → AreBounds self.now.tally xs

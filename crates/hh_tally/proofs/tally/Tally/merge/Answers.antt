@@ -1,4 +1,4 @@
-use Rattle.std.proofs.Common.{◌+◌, ◌<◌, ◌≤◌, ◌^◌, Bool, List, length, sym, ap, ◌∙◌, subst, arith, fold}
+use Rattle.std.proofs.Common.{◌+◌, ◌<◌, ◌^◌, Bool, List, sym, ap, ◌∙◌, subst, arith, fold}
 use Rattle.std.specs.Prelude.{◌==◌}
 use Rattle.std.specs.Map.{keys_of}
 use Rattle.hh_tally.specs.Tallies.{AreFlags, TallyView, add_in}

@@ -1,4 +1,4 @@
-use Rattle.std.proofs.Common.{◌≡◌, ℕ, rules, ◌+◌, ◌*◌, ◌<◌, ◌++◌, ◌∷◌, [], List, true, false, length, get_or, sym, ap, ◌∙◌, arith, subst, take_all}
+use Rattle.std.proofs.Common.{◌≡◌, rules, ◌+◌, ◌<◌, ◌++◌, ◌∷◌, [], List, false, length, get_or, sym, ap, ◌∙◌, arith, take_all}
 use Rattle.std.specs.Map.{keys_of}
 use Rattle.std.proofs.lemmas.List.{length-append}
 use Rattle.hh_stream.specs.Weights.{Entry}

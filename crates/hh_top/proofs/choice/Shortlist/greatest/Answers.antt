@@ -1,11 +1,7 @@
-use Rattle.std.proofs.Common.{◌+◌, ◌-◌, ◌*◌, ◌≤◌, ◌⊎◌, ◌≡◌, ◌∙◌, ap, inl, inr, length, subst, take, zip, arith}
-use Rattle.hh_summaries.specs.Counters.{exceeds, tally}
-use Rattle.hh_summaries.proofs.Reports.{rising-filter}
-use Rattle.hh_summaries.proofs.Weights.{rising-tally}
+use Rattle.std.proofs.Common.{◌+◌, ◌*◌, ◌≤◌, ◌⊎◌, ◌≡◌, ◌∙◌, ap, inl, inr, length, subst, take, zip, arith}
 use Rattle.hh_tally.specs.Tallies.{IsLoss}
 use Rattle.std.specs.Map.{keys_of}
-use Rattle.hh_summaries.specs.Report.{weights_at}
-use Rattle.hh_top.specs.Top.{IsUncertain, ShortlistView, floor_of, rows_over}
+use Rattle.hh_top.specs.Top.{IsUncertain, ShortlistView, rows_over}
 use Rattle.hh_top.proofs.Chosen.{all_weighed, are_enough, are_top, are_uncertain}
 use Rattle.hh_top.proofs.choice.Shortlist.greatest.Goals as goal
 use Rattle.hh_top.proofs.choice.Shortlist.greatest.Goals.{else-floor-gt0-via-then-floor-gt0+else-len-self, else-floor-gt0-via-else-floor-gt0}
