@@ -212,8 +212,9 @@ class Changing(programs.Checks):
 
     def test_another_text(self) -> None:
         """Of a file whose bytes are others in a later reading, of the same size and with the old time, `top` says what it had
-        before or has since, or that it could not be read: never the greatest keys of the one with weights of the other."""
-        before = b"a,5000\n" + b"".join(b"%s,1\n" % key for key in KEYS) + b"z,1000\n"
+        before or has since, or that it could not be read: never the greatest keys of the one with weights of the other. They
+        come late, so that the file is read again to count them."""
+        before = b"".join(b"%s,1\n" % key for key in KEYS) + b"a,5000\nz,1000\n"
         since = before.replace(b"a,5000", b"a,6000").replace(b"z,1000", b"z,9000")
 
         def rewrite(path: Path) -> None:

@@ -468,18 +468,21 @@ class CommandLine(programs.Checks):
 
     def test_hidden_options(self) -> None:
         """Options of a report that its rows don't show. Without an option of a plan the workers start once where there are at
-        most 4,096 keys of 4 MiB, and once more where there are more. With one, each of two passes starts them; a worker's table takes
-        8 bytes for each cell, and the shared words are those cells and a claim for each piece. By the seed keys meet in other
-        cells, and so more or fewer of them are counted in the second pass."""
+        most 4,096 keys of 4 MiB, or no other key can be heavy than those that came before that; and once more where one came late.
+        With such an option, each of two passes starts them; a worker's table takes 8 bytes for each cell, and the shared words are
+        those cells and a claim for each piece. By the seed keys meet in other cells, and so more or fewer of them are counted in
+        the second pass."""
         library = programs.preloaded("watch.c", self.room)
-        for words, count, threads in [
-            ([], 4, 4), (["--workers", "6"], 4, 6), (["--k", "65535"], 4, 4), ([], 4096, 4), ([], 4097, 8),
-            (["--workers", "1"], 4097, 2), (["--k", "2048"], 4098, 4), (["--k", "2048"], 4099, 8),
+        for words, count, late, threads in [
+            ([], 4, False, 4), (["--workers", "6"], 4, False, 6), (["--k", "65535"], 4, False, 4), ([], 4095, True, 4), ([], 4097, False, 4),
+            ([], 4097, True, 8), (["--workers", "1"], 4097, True, 2), (["--k", "2048"], 4097, True, 4), (["--k", "2048"], 4099, True, 8),
         ]:
-            told = watched(self.program, library, ["report", *words], b"".join(b"k%d\n" % number for number in range(count)))
-            self.check(f"report {' '.join(words)} of {count} keys", told.count(0) == threads, told)
-        for count, threads in ((1024, 4), (1025, 8)):
-            told = watched(self.program, library, ["report"], b"".join(b"%04096d\n" % number for number in range(count)))
+            text = b"".join(b"k%d\n" % number for number in range(count)) + b"late,9000\n" * late
+            told = watched(self.program, library, ["report", *words], text)
+            self.check(f"report {' '.join(words)} of {count} keys, {late}", told.count(0) == threads, told)
+        for count, threads in ((1023, 4), (1025, 8)):
+            text = b"".join(b"%04096d\n" % number for number in range(count)) + b"late,9000\n"
+            told = watched(self.program, library, ["report"], text)
             self.check(f"report of {count} keys of the most bytes", told.count(0) == threads, told)
         for words, workers, pieces, cells in [
             (["--pieces", "19"], 4, 19, 1024 * 4), (["--workers", "5", "--pieces", "27"], 5, 27, 1024 * 4),

@@ -510,7 +510,7 @@ def try_tables(test: programs.Checks, dask: Dask) -> None:
     script = [dask.python, EXAMPLES / "over_dask.py", "--scheduler", dask.address]
     tables.try_all(test, dask.room, "Dask", script, tables.parts)
     for words, told in [
-        (["-t", "1/100", "60"], b"over_dask: threshold must be P/Q"), (["-t", "5%", "60"], b"write '1/20'"),
+        (["-t", "1/100", "60"], b"over_dask: threshold must be P/Q"), (["-t", "five", "60"], b"not 'five'"),
         (["-d", "ab", "60"], b"over_dask: delimiter must be one byte"), (["--workers=2", "60"], b"unrecognized arguments: --workers=2"),
     ]:
         ended = dask.room.run([*script, *words, tables.whole])

@@ -168,8 +168,40 @@ pub fn tally_pieces<R: Threads + Wait + Sync, P: Pieces + Sync>(
     found_or_made(&pass, found, workers)
 }
 
-/// The weights of the `contenders` of a `tally` of all pieces: a pass over these counts those of
-/// which it isn't sure, if there are any.
+/// The weights of the keys of `unsure` in all pieces, whose `total` is known. If there are any, a
+/// pass over the pieces counts them.
+fn count_unsure<R: Threads + Wait + Sync, P: Pieces + Sync>(
+    rt: &R,
+    alloc: Global,
+    pieces: &P,
+    unsure: &[(Key, u64)],
+    total: u64,
+    hash: KeyHash,
+    workers: u64,
+) -> Result<Vec<u64>, PieceFault>
+    requires some { 0 < length (P.pieces pieces.now) }
+    requires few { length (P.pieces pieces.now) ≤ max_pieces }
+    requires rising { IsStrictlySortedBy key_cmp (keys_of unsure.now) }
+    requires few_keys { length unsure.now ≤ max_k }
+    requires workers { in_range workers max_workers ≡ true }
+    requires total { P.known pieces.now → total ≡ total_of (whole_of (P.pieces pieces.now)) }
+    ensures count { IfOk result (λ counted. length counted.items ≡ length unsure.now) }
+    ensures weights { IfOk result (λ counted. P.known pieces.now → counted.items
+        ≡ weights_at (keys_of unsure.now) (whole_of (P.pieces pieces.now))) }
+    ensures refused { IsErrOf result PieceFault.Refused → P.known pieces.now
+        → MayRefuse (P.refuses pieces.now) (P.pieces pieces.now) }
+{
+    if unsure.is_empty() {
+        return Ok(Vec::new(alloc));
+    }
+    let candidates = Candidates::of_entries(alloc, unsure, hash)?;
+    let (counted, found) = weigh(rt, alloc, pieces, &OpenGate, &candidates, workers)?;
+    check_totals(&candidates, found, total)?;
+    Ok(counted)
+}
+
+/// The weights of the `contenders` of a `tally` of all pieces: those of which it isn't sure are
+/// counted.
 fn weigh_contenders<R: Threads + Wait + Sync, P: Pieces + Sync>(
     rt: &R,
     alloc: Global,
@@ -193,9 +225,7 @@ fn weigh_contenders<R: Threads + Wait + Sync, P: Pieces + Sync>(
         → MayRefuse (P.refuses pieces.now) (P.pieces pieces.now) }
 {
     let unsure = tally.unsure(alloc, contenders)?;
-    let candidates = Candidates::of_entries(alloc, &unsure, hash)?;
-    let (counted, total) = weigh(rt, alloc, pieces, &OpenGate, &candidates, workers)?;
-    check_totals(&candidates, total, tally.total())?;
+    let counted = count_unsure(rt, alloc, pieces, &unsure, tally.total(), hash, workers)?;
     Ok(tally.weights(alloc, contenders, &counted)?)
 }
 
