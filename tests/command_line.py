@@ -480,9 +480,9 @@ class CommandLine(programs.Checks):
             text = b"".join(b"k%d\n" % number for number in range(count)) + b"late,9000\n" * late
             told = watched(self.program, library, ["report", *words], text)
             self.check(f"report {' '.join(words)} of {count} keys, {late}", told.count(0) == threads, told)
-        for count, threads in ((1023, 4), (1025, 8)):
+        for count, threads in ((1023, 1), (1025, 2)):
             text = b"".join(b"%04096d\n" % number for number in range(count)) + b"late,9000\n"
-            told = watched(self.program, library, ["report"], text)
+            told = watched(self.program, library, ["report", "--workers", "1"], text)
             self.check(f"report of {count} keys of the most bytes", told.count(0) == threads, told)
         for words, workers, pieces, cells in [
             (["--pieces", "19"], 4, 19, 1024 * 4), (["--workers", "5", "--pieces", "27"], 5, 27, 1024 * 4),
