@@ -60,13 +60,13 @@ pub const TOP_HELP: Help = Help {
     about: "Print the N keys of the greatest weight",
     whole: "Print the N keys of the greatest weight, exactly: rows key,weight, by falling weight and
 then by key, and all keys where they are fewer. Records are those of the files, or of
-standard input. Files are read once where each worker has a counter for every key, else
-twice: the second time the keys that can be among the N are counted. Where the counters
-leave open which keys can, they grow, to --memory megabytes in all, and files are read
-once more before that. They may be larger than memory. Standard input and pipes are kept
-in memory up to --memory megabytes, and else in a file without a name in the folder
-TMPDIR, or /tmp. Where the grown counters leave it open too, nothing is printed:
---explain tells what the next key can weigh.",
+standard input. Files are read once where the counters tell the weight of each key that
+can be among the N, else twice: the second time the others that can are counted. Where
+the counters leave open which keys can, they grow, to --memory megabytes in all, and
+files are read once more before that. They may be larger than memory. Standard input and
+pipes are kept in memory up to --memory megabytes, and else in a file without a name in
+the folder TMPDIR, or /tmp. Where the grown counters leave it open too, nothing is
+printed: --explain tells what the next key can weigh.",
     end: "Exit status: 0 all rows are written; 1 input or a file could not be read or output
 not be written; 2 an option is refused; 3 a record is refused, a header has no such
 column, or not all N keys are certain; 4 out of memory.

@@ -26,7 +26,8 @@ impl FirstBytes {
         }
     }
 
-    /// Keeps the next `bytes` as far as there is `room` and memory, and gives the room that is left.
+    /// Keeps the next `bytes` as far as there is `room` and memory, and gives the room that is
+    /// left.
     fn add(&mut self, bytes: &[u8], room: usize) -> usize {
         if !self.is_whole {
             return room;

@@ -1,16 +1,14 @@
 -- The greatest keys of files that are read twice.
-use Rattle.std.proofs.Common.{◌≡◌, ◌∙◌, ℕ, ◌/◌, ◌≤◌, ⊎_elim, inl, inr, Bool, List, [], ◌∷◌, Option, Some, None, Result, Ok, Err, length, refl, sym, ap, subst, arith, fold, map}
-use Rattle.std.proofs.lemmas.List.{length-map}
+use Rattle.std.proofs.Common.{◌≡◌, ◌∙◌, ℕ, ◌/◌, ◌≤◌, ⊎_elim, inl, inr, Bool, List, [], ◌∷◌, Option, Some, None, Result, Ok, Err, refl, sym, ap, subst, arith, fold, map}
 use Rattle.std.specs.Prelude.{IfErr, IfSome, IsSome, option_map, true}
 use Rattle.hh_stream.specs.Cuttings.{whole_of}
 use Rattle.hh_stream.specs.Ranges.{in_range}
-use Rattle.hh_stream.specs.Weights.{Bytes, Entry, max_total, total_of, weight_of}
+use Rattle.hh_stream.specs.Weights.{Bytes, Entry, max_total, total_of}
 use Rattle.hh_summaries.specs.Report.{weights_at}
-use Rattle.hh_counters.specs.Counting.{Count}
 use Rattle.hh_tally.specs.Laws.{BoundsFollow}
 use Rattle.hh_tally.specs.Tallies.{AreBounds, TallyView, empty_tally, tally_with}
 use Rattle.hh_tally.specs.declared.room.Room.{Room}
-use Rattle.hh_top.specs.Top.{GreatestRefused, IsTopFault, IsUncertain, ShortlistView, stand_out, top}
+use Rattle.hh_top.specs.Top.{GreatestRefused, IsTopFault, IsUncertain, ShortlistView, stand_out}
 use Rattle.hh_pieces.specs.CutTexts.{AreReadByPieces}
 use Rattle.hh_pool.specs.Tallied.{BoundsSome}
 use Rattle.hh_records.specs.Layouts.{stream_with}
@@ -21,7 +19,6 @@ use Rattle.hh_records.specs.Refusals.{RecordsRefused}
 use Rattle.hh_records.specs.Streams.{Known, Reading}
 use Rattle.hh_rows.specs.Printed.{printed_rows}
 use Rattle.hh_rows.specs.declared.printed.RowOptions.{RowOptions}
-use Rattle.hh_commands.specs.Records.{CountsRecords}
 use Rattle.hh_files.specs.ReportFiles.{items_or_too_many, lists_of}
 use Rattle.hh_files.specs.TopFiles.{FindsTop, IsSharedRoom, ListRefused, PrintsTop, TalliesRecords, TellsTop, TopFilesRefused, TopRefused, WeighsRecords, counted_in, shared_room, whole_room}
 use Rattle.hh_files.specs.declared.topping.TopOptions.{TopOptions}
@@ -48,47 +45,8 @@ shared_refused options list known e same shared h =
     (λ (own : TellsTop list × (list.tally.room ≡ shared_room (options.memory / options.workers))). inl own.0)
     (λ (all : (list.k ≡ k) × (list.tally.room ≡ whole_room options.memory)). inr (sym all.0)) shared))
 
--- a count of records has a number for each key, which is the key's weight in them
-pub count_of_each : (known : Known) (ks : List Bytes) (counts : Count) → CountsRecords known ks counts
-    → length counts.weights ≡ length ks
-count_of_each known ks counts (ys, again, (weigh, counted)) =
-    ap (λ (c : Count). length c.weights) counted ∙ length-map ks (λ x. weight_of x ys)
-
-pub records_weighed : (names : Bool) (o : Option (Option Reading)) (ks : List Bytes) (counts : Count)
-    → CountsRecords (record { names_columns = names; reading = o }) ks counts
-    → WeighsRecords (record { names_columns = names; reading = o }) ks counts.weights
-records_weighed names None ks counts h = tt
-records_weighed names (Some r) ks counts (ys, again, (weigh, counted)) = λ xs read.
-    let same : ys ≡ xs = cc in
-    ap (λ (c : Count). c.weights) counted ∙ ap (weights_at ks) same
-
--- and no keys have no weights
-pub none_weighed : (names : Bool) (o : Option (Option Reading)) (ks : List Bytes) (ws : List ℕ) → ks ≡ [] → ws ≡ []
-    → WeighsRecords (record { names_columns = names; reading = o }) ks ws
-none_weighed names None ks ws none is = tt
-none_weighed names (Some r) ks ws none is = λ xs read. is ∙ ap (λ ks. weights_at ks xs) (sym none)
-
-module _ (names : Bool) (n : ℕ) (room : Room) (t : TallyView) where
-  -- what is found of a tally that lost nothing is of the records
-  pub exact_found : (o : Option (Option Reading)) (keys : List Entry)
-      → TalliesRecords room (record { names_columns = names; reading = o }) t
-      → ((xs : List Entry) → AreBounds t xs → keys ≡ top n xs)
-      → FindsTop n (record { names_columns = names; reading = o }) t.total keys
-  exact_found None keys made found = tt
-  exact_found (Some r) keys (xs, read, of, bounds) found = (xs, read, bounds.counted, found xs bounds)
-
 module _ (names : Bool) (list : ShortlistView) (room : Room) (ks : List Bytes) (counted : List ℕ) where
-  -- what was found of the records is theirs where both readings are one
-  pub top_found : (o : Option (Option Reading)) (keys : List Entry)
-      → TalliesRecords room (record { names_columns = names; reading = o }) list.tally
-      → WeighsRecords (record { names_columns = names; reading = o }) ks counted
-      → ((xs : List Entry) → AreBounds list.tally xs → counted ≡ weights_at ks xs → keys ≡ top list.n xs)
-      → FindsTop list.n (record { names_columns = names; reading = o }) list.tally.total keys
-  top_found None keys made weighs found = tt
-  top_found (Some r) keys (xs, read, of, bounds) weighs found =
-      (xs, read, bounds.counted, found xs bounds (weighs xs read))
-
-  -- and so is what a refusal tells: none of them, where the list tells the greatest keys
+  -- what a refusal tells is of the records where both readings are one: none of them, where the list tells the greatest keys
   pub top_refused : (o : Option (Option Reading)) (e : ToolError)
       → TalliesRecords room (record { names_columns = names; reading = o }) list.tally
       → WeighsRecords (record { names_columns = names; reading = o }) ks counted

@@ -191,7 +191,7 @@ impl KeyPart {
     }
 
     /// Gives this part of `field`.
-    pub(crate) fn of<'f>(&self, field: &'f [u8]) -> &'f [u8]
+    pub fn of<'f>(&self, field: &'f [u8]) -> &'f [u8]
         ensures { result.now ≡ part_of (part_said self.now) field.now }
     {
         let field = before(field, self.until.as_slice());

@@ -10,7 +10,7 @@ use Rattle.hh_stream.specs.Weights.{Bytes, Entry, total_of}
 use Rattle.hh_summaries.proofs.Level.{positive-lower}
 use Rattle.hh_summaries.proofs.Weights.{Distinct}
 use Rattle.hh_tally.specs.declared.room.Room.{Room}
-use Rattle.hh_tally.specs.Tallies.{AreFlags, TallyView, and_sure, IsRoom, IsLoss, IsTally, add_in, bytes_of, filled, is_over, is_sure, loss_of, left_of, merged_tally, tally_with}
+use Rattle.hh_tally.specs.Tallies.{AreFlags, TallyView, and_sure, IsRoom, IsLoss, IsTally, add_in, bytes_of, filled, is_over, is_sure, loss_of, left_of, merged_tally, tally_with, view_of}
 use Rattle.hh_tally.proofs.Raising.{distinct-add_in, positive-add_all, positive-add_in, total_of-add_in}
 use Rattle.hh_tally.proofs.Sure.{filled_all, flags-add_all, flags-add_in, own_flags, sure_new}
 use Rattle.hh_tally.proofs.Bounds.{distinct-add_all, distinct-left_of, total_of-add_all, loss_none, loss_paid, left_same, settled_within}
@@ -120,28 +120,10 @@ lost_fits {room} {total} {lost} {es = es} h =
 -- what an item leaves where there are not too many keys
 pub with_known : (room : Room) (total lost w : ℕ) (x : Bytes) (flags : List Bool) (es fs : List Entry) → fs ≡ add_in es (x, w)
     → keys_of fs ≡ keys_of es → is_over room (keys_of fs) ≡ false → Distinct es → length flags ≤ length es → (t : TallyView)
-    → t ≡ record {
-      room = room;
-      total = total;
-      lost = lost;
-      counters = es;
-      sure = filled flags (lost == 0) (length es);
-    }
-    → record {
-      room = room;
-      total = total + w;
-      lost = lost;
-      counters = fs;
-      sure = filled flags (lost == 0) (length fs);
-    } ≡ tally_with t (x, w)
+    → t ≡ view_of room total lost flags es
+    → view_of room (total + w) lost flags fs ≡ tally_with t (x, w)
 with_known room total lost w x flags es fs is keys light distinct few t view =
-    let was : TallyView = record {
-      room = room;
-      total = total;
-      lost = lost;
-      counters = es;
-      sure = filled flags (lost == 0) (length es);
-    } in
+    let was : TallyView = view_of room total lost flags es in
     let all : List Entry = add_in es (x, w) in
     let within : is_over room (keys_of all) ≡ false =
     subst (λ (ds : List Entry). is_over room (keys_of ds) ≡ false) is light in
@@ -164,28 +146,10 @@ module _ (room : Room) (total lost more : ℕ) (flags after : List Bool) where
   pub with_new : (w : ℕ) (x : Bytes) (es all left : List Entry) → all ≡ add_in es (x, w)
       → more ≡ loss_of room all → left ≡ left_of room all → Distinct es → length flags ≤ length es → Keeps all left (lost == 0)
       → (t : TallyView)
-      → t ≡ record {
-        room = room;
-        total = total;
-        lost = lost;
-        counters = es;
-        sure = filled flags (lost == 0) (length es);
-      }
-      → record {
-        room = room;
-        total = total + w;
-        lost = lost + more;
-        counters = left;
-        sure = filled after (lost + more == 0) (length left);
-      } ≡ tally_with t (x, w)
+      → t ≡ view_of room total lost flags es
+      → view_of room (total + w) (lost + more) after left ≡ tally_with t (x, w)
   with_new w x es all left is loss are distinct few keeps t view =
-      let was : TallyView = record {
-        room = room;
-        total = total;
-        lost = lost;
-        counters = es;
-        sure = filled flags (lost == 0) (length es);
-      } in
+      let was : TallyView = view_of room total lost flags es in
       let rest = lost == 0 in
       let own : AreFlags flags rest (keys_of all) (is_sure was) =
       subst (λ (ds : List Entry). AreFlags flags rest (keys_of ds) (is_sure was)) (sym is)
@@ -204,34 +168,16 @@ module _ (room : Room) (total lost more : ℕ) (flags after : List Bool) where
 
 -- what the items of another tally leave: `both` are the flags of all keys, `after` those of the keys that are left
 pub with_merged : (room : Room) (total total' lost lost' more : ℕ) (flags both after : List Bool) (es all left : List Entry)
-    (t u : TallyView) → t ≡ record {
-      room = room;
-      total = total;
-      lost = lost;
-      counters = es;
-      sure = filled flags (lost == 0) (length es);
-    }
+    (t u : TallyView) → t ≡ view_of room total lost flags es
     → total' ≡ u.total → lost' ≡ u.lost → all ≡ fold add_in es u.counters → more ≡ loss_of room all → left ≡ left_of room all
     → Distinct es → length flags ≤ length es
     → ((test : Bytes → Bool) → AreFlags flags (lost == 0) (keys_of all) test
     → both ≡ map (and_sure test u) (keys_of all))
     → Keeps room total (lost + lost') more both after all left (lost + lost' == 0)
-    → record {
-      room = room;
-      total = total + total';
-      lost = lost + lost' + more;
-      counters = left;
-      sure = filled after (lost + lost' + more == 0) (length left);
-    } ≡ merged_tally t u
+    → view_of room (total + total') (lost + lost' + more) after left ≡ merged_tally t u
 with_merged room total total' lost lost' more flags both after es all left t u view total_is lost_is is loss are distinct few
     says keeps =
-    let was : TallyView = record {
-      room = room;
-      total = total;
-      lost = lost;
-      counters = es;
-      sure = filled flags (lost == 0) (length es);
-    } in
+    let was : TallyView = view_of room total lost flags es in
     let test : Bytes → Bool = and_sure (is_sure was) u in
     let sum : List Entry = fold add_in es u.counters in
     let own : AreFlags flags (lost == 0) (keys_of all) (is_sure was) =

@@ -4,7 +4,7 @@ use Rattle.std.specs.Prelude.{◌==◌, unwrap_or}
 use Rattle.std.specs.List.{AllByRecursion, IsDistinct}
 use Rattle.std.specs.Map.{keys_of, lookup, values_of}
 use Rattle.std.proofs.lemmas.Grind.{replicate_next}
-use Rattle.std.proofs.lemmas.List.{length-append, length-replicate, map-append, get_or_append_left, get_or-append_right, get_or-replicate, get_or-map}
+use Rattle.std.proofs.lemmas.List.{length-append, length-replicate, map-append, get_or-map}
 use Rattle.std.proofs.lemmas.Map.Entries.{length-keys_of}
 use Rattle.std.proofs.lemmas.Map.Made.{keys_of-zip}
 use Rattle.std.proofs.lemmas.Option.{get_or_from_slice_get, slice_get-get_or, slice_get_within}
@@ -40,22 +40,13 @@ flags_more flags rest ks test k few same are =
     ∙ (λ i. are i ++ sym same i ∷ [])
     ∙ sym (map-append test ks (k ∷ []))
 
--- the flag at a place
-pub flag_first : (flags : List Bool) (rest : Bool) (n i : ℕ) → i < length flags
-    → get_or flags i false ≡ get_or (filled flags rest n) i false
-flag_first flags rest n i l = sym (get_or_append_left flags (replicate (n - length flags) rest) false i l)
-
-pub flag_behind : (flags : List Bool) (rest : Bool) (n i : ℕ) → length flags ≤ i → i < n
-    → rest ≡ get_or (filled flags rest n) i false
-flag_behind flags rest n i le l =
-    sym (get_or-append_right flags (replicate (n - length flags) rest) (length flags) i false refl le
-    ∙ get_or-replicate (n - length flags) (i - length flags) rest false (omega (arith, le, l)))
-
+-- the flag at a place is what the test says of the key there
 flag_says : (flags : List Bool) (rest : Bool) (ks : List Bytes) (test : Bytes → Bool) (i : ℕ)
     → AreFlags flags rest ks test → i < length ks
     → get_or (filled flags rest (length ks)) i false ≡ test (get_or ks i [])
 flag_says flags rest ks test i are l = ap (λ (bs : List Bool). get_or bs i false) are ∙ get_or-map test ks i [] false l
 
+-- and so of the key of an entry
 pub flag_of_entry : (flags : List Bool) (rest : Bool) (es : List Entry) (test : Bytes → Bool) (i : ℕ) (e : Entry)
     → AreFlags flags rest (keys_of es) test → Some e ≡ slice_get es i
     → get_or (filled flags rest (length es)) i false ≡ test e.0

@@ -60,6 +60,21 @@ pub record TallyView : Type 0 where
   pub counters : List Entry
   pub sure : List Bool
 
+-- flags of the first of n keys, with one flag for all the rest
+abbrev pub filled : List Bool → Bool → ℕ → List Bool
+filled flags rest n = flags ++ replicate (n - length flags) rest
+
+-- what a contract sees of a tally of these parts: the flags say of which of the first keys it is sure, and of the others it
+-- is while nothing is lost
+abbrev pub view_of : Room → ℕ → ℕ → List Bool → List Entry → TallyView
+view_of room total lost flags es = record {
+  room = room;
+  total = total;
+  lost = lost;
+  counters = es;
+  sure = filled flags (lost == 0) (length es);
+}
+
 -- whether a tally is sure of the key x, so that all that was lost is what the key's counter lacks: a key without a counter
 -- never came if nothing was lost
 abbrev pub is_sure : TallyView → Bytes → Bool
@@ -108,10 +123,6 @@ pub record AreBounds (t : TallyView) (xs : List Entry) : Type 0 where
   pub below : (x : Bytes) → weight_of x t.counters ≤ weight_of x xs
   pub near : (x : Bytes) → weight_of x xs ≤ weight_of x t.counters + t.lost
   pub sure : (x : Bytes) → is_sure t x ≡ true → weight_of x xs ≡ weight_of x t.counters + t.lost
-
--- flags of the first of n keys, with one flag for all the rest
-abbrev pub filled : List Bool → Bool → ℕ → List Bool
-filled flags rest n = flags ++ replicate (n - length flags) rest
 
 -- such flags say of each key what a test says
 abbrev pub AreFlags : List Bool → Bool → List Bytes → (Bytes → Bool) → Type 0

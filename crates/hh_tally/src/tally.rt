@@ -43,18 +43,12 @@ pub struct Tally {
 }
 
 impl Model for Tally {
-    ghost use Rattle.std.specs.Prelude.{◌==◌, ◌≤◌, length};
-    ghost use Rattle.hh_tally.specs.Tallies.{TallyView, IsTally, filled};
+    ghost use Rattle.std.specs.Prelude.{◌≤◌, length};
+    ghost use Rattle.hh_tally.specs.Tallies.{TallyView, IsTally, view_of};
 
     ghost Value = { TallyView };
 
-    ghost view = { λ t. record {
-      room = t.room;
-      total = t.total;
-      lost = t.lost;
-      counters = t.index.entries;
-      sure = filled t.sure.items (t.lost == 0) (length t.index.entries);
-    } };
+    ghost view = { λ t. view_of t.room t.total t.lost t.sure.items t.index.entries };
 
     ghost invariant = { λ t. IsTally t.room t.total t.lost t.bytes t.index.entries
         × (length t.sure.items ≤ length t.index.entries) };

@@ -3,7 +3,7 @@ use Rattle.std.specs.Prelude.{◌==◌}
 use Rattle.std.proofs.lemmas.Bool.Decides.{nat_tests}
 use Rattle.hh_summaries.specs.Counters.{Fits, IsCounters, IsHonest, SummaryView, max_k}
 use Rattle.hh_summaries.proofs.Weights.{counters-tally}
-use Rattle.hh_tally.specs.Tallies.{AreBounds, TallyView, filled, pruned}
+use Rattle.hh_tally.specs.Tallies.{AreBounds, TallyView, pruned, view_of}
 use Rattle.hh_tally.proofs.Reporting.{all_above, cut_above, pruned_fits, pruned_honest}
 use Rattle.hh_tally.proofs.tally.Tally.into_summary.Goals as goal
 
@@ -38,13 +38,7 @@ returns-clause-honest c = λ room xs bounds.
     let es = t.index.entries in
     let k = c.args.k in
     let left = cut_above es _ _ k c.self.invariant.0.positive c.in_ok-entries.ensures.entries c.in_ok-cut.ensures.lowered in
-    let inside : TallyView = record {
-      room = t.room;
-      total = t.total;
-      lost = t.lost;
-      counters = es;
-      sure = filled t.sure.items (t.lost == 0) (length es);
-    } in
+    let inside : TallyView = view_of t.room t.total t.lost t.sure.items es in
     let theirs = subst (λ (v : TallyView). AreBounds v xs) (sym c.self.view_is) bounds in
     let enough = subst (λ (v : TallyView). 2 * (k + 1) ≤ v.room.few) (sym c.self.view_is) room in
     let honest = pruned_honest inside xs k theirs c.self.invariant.0.loss enough in
