@@ -1,20 +1,18 @@
 -- The merged summary can be made, and is what the analysis says.
-use Rattle.std.proofs.Common.{◌≡◌, ℕ, ◌+◌, ◌*◌, ◌<◌, ◌≤◌, List, [], ◌∷◌, length, length-append, get_or, map, refl, sym, ap, ◌∙◌, subst, arith, Ok, Err, sum_by}
-use Rattle.std.specs.Map.{keys_of}
+use Rattle.std.proofs.Common.{◌≡◌, ℕ, ◌+◌, ◌<◌, ◌≤◌, List, [], ◌∷◌, length, length-append, get_or, map, refl, sym, ap, ◌∙◌, subst, arith, Ok, Err, sum_by}
 use Rattle.std.proofs.lemmas.List.{get_or-map, length-map}
 use Rattle.std.proofs.lemmas.List.Sums.{sum_by-append, sum_by-cons}
 use Rattle.std.proofs.lemmas.Bool.Decides.{nat_tests}
-use Rattle.hh_stream.specs.Weights.{Bytes, Entry, weight_of, total_of, max_total}
+use Rattle.hh_stream.specs.Weights.{Entry, total_of, max_total}
 use Rattle.hh_stream.specs.Cuttings.{whole_of}
 use Rattle.hh_summaries.specs.Counters.{SummaryView, sketch_of, merge_of, misra_gries, IsHonest}
 use Rattle.hh_summaries.specs.declared.fault.SummaryFault.{SummaryFault}
-use Rattle.hh_summaries.specs.Report.{contenders, keys_above}
-use Rattle.hh_counters.specs.Laws.{MisraGriesIsHonest, JoinOfHonestIsHonest, ContendersSuffice, PrunedSuffice}
+use Rattle.hh_counters.specs.Laws.{MisraGriesIsHonest, JoinOfHonestIsHonest}
 use Rattle.hh_shared.specs.Tally.{times}
 use Rattle.hh_pool.specs.Trees.{merge_both, merge_result, no_sketch, tree_result, tree_value}
 use Rattle.hh_workers.specs.Trees.{MergeTree, Piece, Merge, IsMergeTree, leaves}
 use Rattle.hh_pool.specs.Laws.{TreesMergeSummaries}
-use Rattle.hh_pool.specs.Outcomes.{AreEnough, IsMerged}
+use Rattle.hh_pool.specs.Outcomes.{IsMerged}
 use Rattle.hh_shared.proofs.Tallies.{times-here}
 use Rattle.hh_workers.proofs.LeafFacts.{at-left, at-right, distinct-leaves, length_leaves, sum-leaves}
 use Rattle.hh_pool.proofs.ValueFacts.{IsMergeOf, merge-of}
@@ -101,19 +99,6 @@ summaries-merge join law t k parts s tree made =
     let over : IsMergeTree t (length ss) = rw (length-map parts (sketch_of k)) tree in
     let some : 0 < length parts = omega (arith, some-leaf t, length_leaves t (length parts) tree) in
     merged_is law t k parts (whole_of parts) ss s some refl refl (merge-of join t ss s over made)
-
--- the contenders of an honest summary, pruned by numbers that no weight is above, are enough
-pub pruned_enough : ContendersSuffice → PrunedSuffice
-    → (s : SummaryView) (xs : List Entry) (p q total : ℕ) (ks keys : List Bytes) (numbers : List ℕ) (bound : Bytes → ℕ)
-    → IsHonest s.counters s.total xs s.k → q ≤ p * (s.k + 1)
-    → ((x : Bytes) → weight_of x xs ≤ bound x) → total ≡ total_of xs → ks ≡ keys_of (contenders p q s)
-    → numbers ≡ map bound ks → keys ≡ keys_above p q total ks numbers → AreEnough keys xs p q
-pruned_enough contend thin s xs p q total ks keys numbers bound honest enough most total_is ks_are numbers_are
-    keys_are =
-    let all = keys_of (contenders p q s) in
-    let here : keys ≡ keys_above p q (total_of xs) all (map bound all) = keys_are
-    ∙ (λ i. keys_above p q (total_is i) (ks_are i) ((numbers_are ∙ ap (map bound) ks_are) i)) in
-    rw here (thin all bound xs p q most ∙ contend s xs p q honest enough)
 
 -- so no refusal comes
 pub no_refusal : (t : MergeTree) (k : ℕ) (pieces : List (List Entry)) (ss : List SummaryView) (e : SummaryFault)

@@ -1,14 +1,9 @@
 -- What an analysis comes to.
-use Rattle.std.specs.Prelude.{◌≡◌, ℕ, List, map, zip}
-use Rattle.hh_stream.specs.Weights.{Bytes, Entry, total_of}
+use Rattle.std.specs.Prelude.{◌≡◌, ℕ, List, map}
+use Rattle.hh_stream.specs.Weights.{Entry, total_of}
 use Rattle.hh_summaries.specs.Counters.{SummaryView, misra_gries, IsHonest}
-use Rattle.hh_summaries.specs.Report.{heavy, rows_above, weights_at}
 use Rattle.hh_pool.specs.Trees.{tree_value}
 use Rattle.hh_workers.specs.Trees.{MergeTree}
-
--- counted in xs, these keys give the report above p/q
-abbrev pub AreEnough : List Bytes → List Entry → ℕ → ℕ → Type 0
-AreEnough ks xs p q = rows_above p q (total_of xs) (zip ks (weights_at ks xs)) ≡ heavy xs p q
 
 -- The summary has this k, the total of all items, and the counters that the tree makes of those of the pieces, and it
 -- is honest for the items xs

@@ -6,11 +6,11 @@ ghost use Rattle.hh_stream.specs.Weights.{Entry, max_total, total_of};
 ghost use Rattle.hh_stream.specs.Cuttings.{max_pieces, pieces_of, whole_of};
 ghost use Rattle.hh_stream.specs.Ranges.{in_range};
 ghost use Rattle.hh_summaries.specs.Counters.{max_k, IsHonest, sketch_of};
-ghost use Rattle.hh_summaries.specs.Report.{IsShare, weights_at, heavy};
-ghost use Rattle.hh_countmin.specs.Table.{estimate_in, table_of};
+ghost use Rattle.hh_summaries.specs.Report.{weights_at, heavy};
+ghost use Rattle.hh_countmin.specs.Table.{table_of};
 ghost use Rattle.hh_workers.specs.Workers.{max_workers};
 ghost use Rattle.hh_workers.specs.Trees.{IsMergeTree, leaves};
-ghost use Rattle.hh_pool.specs.Outcomes.{AreEnough, IsMerged};
+ghost use Rattle.hh_pool.specs.Outcomes.{IsMerged};
 ghost use Rattle.hh_pool.specs.Passes.{MayRefuse};
 
 use crate::first::FirstPass;
@@ -18,14 +18,14 @@ use crate::merging::merge_by;
 use crate::options::Options;
 use crate::outcome::{Outcome, RunError};
 use crate::second::SecondPass;
-use hh_counters::laws::{contenders_suffice, misra_gries_is_honest, pruned_suffice};
+use hh_counters::laws::{candidates_suffice, misra_gries_is_honest};
 use hh_counters::{Candidates, Heavy, Summary, SummaryFault};
 use hh_countmin::Table;
-use hh_countmin::laws::{cells_are_cell_sums, estimate_is_never_below, tables_fit};
+use hh_countmin::laws::{cells_are_cell_sums, tables_fit};
 use hh_stream::laws::pieces_make_the_whole;
-use hh_stream::{Cutting, KeyHash, PieceFault, Stream};
+use hh_stream::{Cutting, PieceFault, Stream};
 use hh_workers::{CutStream, Gate, Pieces, Plan, only_memory, share_work};
-use std::alloc::{AllocError, Global};
+use std::alloc::Global;
 use std::sync::Wait;
 use std::thread::Threads;
 
@@ -121,46 +121,6 @@ pub(crate) fn weigh<R: Threads + Wait + Sync, P: Pieces + Sync, G: Gate + Sync>(
     }
 }
 
-/// The estimate of each candidate.
-fn estimates(alloc: Global, table: &Table, candidates: &Candidates) -> Result<Vec<u64>, AllocError>
-    ensures { IfOk result
-        (λ numbers. numbers.items ≡ map (estimate_in table.now) candidates.now) }
-{
-    let mut numbers = Vec::new(alloc);
-    for i in 0..candidates.len() {
-        numbers.push(table.estimate(candidates.key(i)))?;
-    }
-    Ok(numbers)
-}
-
-/// The keys that can be above the threshold, as far as their counters and the table of the same
-/// stream tell.
-fn candidates(
-    alloc: Global,
-    summary: &Summary,
-    table: &Table,
-    p: u64,
-    q: u64,
-    hash: KeyHash,
-) -> Result<Candidates, AllocError>
-    requires share { IsShare p q }
-    requires rows { 1 ≤ length table.now.family.rows }
-    ensures few { IfOk result (λ candidates. length candidates ≤ length summary.now.counters) }
-    ensures enough { (xs : List Entry)
-        → IsHonest summary.now.counters summary.now.total xs summary.now.k
-        → q ≤ p * (summary.now.k + 1)
-        → table.now ≡ table_of table.now.family table.now.width xs
-        → IfOk result (λ candidates. AreEnough candidates xs p q) }
-{
-    contenders_suffice();
-    pruned_suffice();
-    estimate_is_never_below();
-    cells_are_cell_sums();
-    let contenders = Candidates::contenders_with_hasher(alloc, summary, p, q, hash)?;
-    let estimates = estimates(alloc, table, &contenders)?;
-    contenders.pruned(&estimates, table.total(), p, q)
-}
-
 /// The summaries of the pieces, merged as the plan says, and the table of all items.
 fn merge_pieces<R: Threads + Wait + Sync, P: Pieces + Sync, G: Gate + Sync>(
     rt: &R,
@@ -212,67 +172,34 @@ pub(crate) fn check_totals(
     Ok(())
 }
 
-/// Those of the candidates that are above the options' threshold, by a second pass. The total is
-/// that of the first.
-fn heavy_among<R: Threads + Wait + Sync, P: Pieces + Sync, G: Gate + Sync>(
-    rt: &R,
-    alloc: Global,
-    pieces: &P,
-    gate: &G,
-    candidates: &Candidates,
-    total: u64,
-    options: &Options,
-) -> Result<Vec<Heavy>, PieceFault>
-    requires some { 0 < length (P.pieces pieces.now) }
-    requires few { length (P.pieces pieces.now) ≤ max_pieces }
-    requires few_keys { length candidates.now ≤ max_k }
-    requires total { P.known pieces.now → total ≡ total_of (whole_of (P.pieces pieces.now)) }
-    requires enough { P.known pieces.now
-        → AreEnough candidates.now (whole_of (P.pieces pieces.now)) options.now.p options.now.q }
-    ensures heavy { let xs = whole_of (P.pieces pieces.now) in
-        IfOk result (λ rows. P.known pieces.now
-        → rows.items ≡ heavy xs options.now.p options.now.q) }
-    ensures refused { IsErrOf result PieceFault.Refused → P.known pieces.now
-        → MayRefuse (P.refuses pieces.now) (P.pieces pieces.now) }
-{
-    let (p, q) = options.threshold();
-    let workers = options.workers();
-    let (weights, counted) = weigh(rt, alloc, pieces, gate, candidates, workers)?;
-    check_totals(candidates, counted, total)?;
-    Ok(candidates.select(&weights, total, p, q)?)
-}
-
-/// The keys above the options' threshold, by a second pass over those that can be.
+/// The keys above the options' threshold, by a second pass that counts those of the summary.
 fn heavy_keys<R: Threads + Wait + Sync, P: Pieces + Sync, G: Gate + Sync>(
     rt: &R,
     alloc: Global,
     pieces: &P,
     gate: &G,
     summary: &Summary,
-    table: &Table,
     options: &Options,
 ) -> Result<Vec<Heavy>, PieceFault>
     requires some { 0 < length (P.pieces pieces.now) }
     requires few { length (P.pieces pieces.now) ≤ max_pieces }
-    requires same_k { P.known pieces.now → summary.now.k ≡ options.now.k }
     requires total { P.known pieces.now
         → summary.now.total ≡ total_of (whole_of (P.pieces pieces.now)) }
-    requires honest { let s = summary.now in P.known pieces.now
-        → IsHonest s.counters s.total (whole_of (P.pieces pieces.now)) s.k }
-    requires table { let options = options.now in P.known pieces.now → table.now
-        ≡ table_of options.family options.width (whole_of (P.pieces pieces.now)) }
-    requires few_keys { length summary.now.counters ≤ max_k }
-    requires rows { 1 ≤ length table.now.family.rows }
+    requires honest { let xs = whole_of (P.pieces pieces.now) in P.known pieces.now
+        → IsHonest summary.now.counters (total_of xs) xs options.now.k }
     ensures heavy { let xs = whole_of (P.pieces pieces.now) in
         IfOk result (λ rows. P.known pieces.now
         → rows.items ≡ heavy xs options.now.p options.now.q) }
     ensures refused { IsErrOf result PieceFault.Refused → P.known pieces.now
         → MayRefuse (P.refuses pieces.now) (P.pieces pieces.now) }
 {
+    candidates_suffice();
     let (p, q) = options.threshold();
-    let candidates = candidates(alloc, summary, table, p, q, options.hash())?;
     let total = summary.total();
-    heavy_among(rt, alloc, pieces, gate, &candidates, total, options)
+    let candidates = Candidates::with_hasher(alloc, summary, options.hash())?;
+    let (weights, counted) = weigh(rt, alloc, pieces, gate, &candidates, options.workers())?;
+    check_totals(&candidates, counted, total)?;
+    Ok(candidates.select(&weights, total, p, q)?)
 }
 
 /// The outcome, where the plan has as many pieces as there are.
@@ -299,7 +226,7 @@ fn run_passes<R: Threads + Wait + Sync, P: Pieces + Sync, G: Gate + Sync>(
         → MayRefuse (P.refuses pieces.now) (P.pieces pieces.now) }
 {
     let (summary, table) = merge_pieces(rt, alloc, pieces, gate, plan, options)?;
-    let heavy = heavy_keys(rt, alloc, pieces, gate, &summary, &table, options)?;
+    let heavy = heavy_keys(rt, alloc, pieces, gate, &summary, options)?;
     Ok(Outcome {
         summary,
         table,
@@ -323,12 +250,11 @@ fn check_counts(plan: &Plan, count: usize) -> Result<(), RunError>
 }
 
 /// Analyses a stream, with workers that share nothing but atomic sums: they summarise the pieces
-/// and fill the table, the summaries are merged as the plan says, and the workers count those of
-/// the merged summary's keys that can be above the threshold, as far as counters and table tell.
-/// The outcome is the same for every number of workers and whatever worker does which piece: the
-/// counters are those of the plan's merges, honest for the stream (Agarwal et al., PODS 2012), the
-/// table is the stream's, cell for cell (Cormode and Muthukrishnan 2005), and the heavy keys are
-/// exactly those above the options' threshold, with their true weights.
+/// and fill the table, the summaries are merged as the plan says, and the workers count the merged
+/// summary's keys. The outcome is the same for every number of workers and whatever worker does
+/// which piece: the counters are those of the plan's merges, honest for the stream (Agarwal et al.,
+/// PODS 2012), the table is the stream's, cell for cell (Cormode and Muthukrishnan 2005), and the
+/// heavy keys are exactly those above the options' threshold, with their true weights.
 ///
 /// It starts the workers, numbered from 0, in threads of their own, and waits for them.
 pub fn analyse<R: Threads + Wait + Sync, G: Gate + Sync>(
