@@ -1,14 +1,12 @@
 -- Candidates counted item by item.
-use Rattle.std.proofs.Common.{◌≡◌, ◌↔◌, ℕ, zero, suc, ◌+◌, ◌<◌, ◌≤◌, Bool, true, false, cond, List, [], ◌∷◌, ◌++◌, length, get_or, take, Option, Some, None, Less, is_eq, is_some, refl, sym, ap, ap₂, ◌∙◌, subst, true≢false, append-nil, arith, All, filter, replicate, position, slice_get, slice_set, Contains, IsSome}
+use Rattle.std.proofs.Common.{◌≡◌, ◌↔◌, ℕ, zero, suc, ◌+◌, ◌<◌, ◌≤◌, false, cond, List, [], ◌∷◌, ◌++◌, length, get_or, take, Option, Some, None, Less, is_eq, is_some, refl, sym, ap, ap₂, ◌∙◌, subst, true≢false, arith, All, replicate, position, slice_get, slice_set, Contains, IsSome}
 use Rattle.std.specs.List.{AllByRecursion, list_any}
 use Rattle.std.specs.List.Sorted.{IsStrictlySortedBy}
-use Rattle.std.specs.Map.{keys_of}
 use Rattle.std.specs.Cmp.{eq_by_cmp_equiv}
 use Rattle.std.proofs.lemmas.Option.{slice_get-get_or, slice_get_within, get_or_from_slice_get}
-use Rattle.std.proofs.lemmas.List.{get_or_default, get_or-map, get_or-take, length-take, map-append, take_more}
-use Rattle.std.proofs.lemmas.List.Elements.{All-from_recursion, filter_more}
-use Rattle.std.proofs.lemmas.Bool.{cond_both, false_from_ne_true, or_from, or_parts}
-use Rattle.std.proofs.lemmas.Map.Entries.{length-keys_of}
+use Rattle.std.proofs.lemmas.List.{get_or_default, get_or-take, length-take, take_more}
+use Rattle.std.proofs.lemmas.List.Elements.{All-from_recursion}
+use Rattle.std.proofs.lemmas.Bool.{false_from_ne_true}
 use Rattle.std.proofs.lemmas.List.Folds.{list_any_none}
 use Rattle.std.proofs.lemmas.List.Quantifiers.{position-Some}
 use Rattle.std.proofs.lemmas.Map.Keys.{Less-from_sorted}
@@ -16,9 +14,8 @@ use Rattle.std.proofs.lemmas.Map.Views.{list_any-from_Contains}
 use Rattle.indexmap.specs.IndexSet.{insert_key}
 use Rattle.std.proofs.lemmas.List.Sums.{sum_by-le-sum_by}
 use Rattle.hh_stream.specs.Weights.{Bytes, Entry, key_cmp, same_key, at_key, weight_of, total_of}
-use Rattle.hh_summaries.specs.Counters.{Counters}
 use Rattle.hh_summaries.specs.Report.{weights_at, counts_with}
-use Rattle.hh_summaries.proofs.Weights.{rising_entries, at_differ, same_exact, key_total, key_self, flipped, weight_of-append, weight_of-cons, at_other}
+use Rattle.hh_summaries.proofs.Weights.{at_differ, same_exact, key_total, key_self, flipped, weight_of-append, weight_of-cons, at_other}
 
 -- counted from 0, each key has its weight
 pub counted_from_zero : (ks : List Bytes) (xs : List Entry)
@@ -189,52 +186,3 @@ insert_next ks i x h l is =
         let here : get_or ks i d ≡ x = get_or_default ks i d x l ∙ sym is in
         ap (same_key x) (get_or-take i ks j d below) ∙ ap is_eq
         (flipped (get_or ks j d) x Less (ap (key_cmp (get_or ks j d)) (sym here) ∙ less))
-
--- a key that is no key of counters is none of those that pass a test
-absent-filter : (may : Entry → Bool) (x : Bytes) (c : Counters) → list_any (same_key x) (keys_of c) ≡ false
-    → list_any (same_key x) (keys_of (filter may c)) ≡ false
-absent-filter may x [] h = h
-absent-filter may x (e ∷ c) h =
-    let apart = or_parts (same_key x e.0) (list_any (same_key x) (keys_of c)) h in
-    let rest = absent-filter may x c apart.1 in
-    cond_both (may e) _ _ (λ (d : Counters). list_any (same_key x) (keys_of d) ≡ false)
-    (λ _. or_from _ _ apart.0 rest) (λ _. rest)
-
--- a key of rising counters is none of those before it
-absent_before : (c : Counters) (i : ℕ) (e : Entry) → IsStrictlySortedBy key_cmp (keys_of c) → i < length c
-    → get_or c i e ≡ e → list_any (same_key e.0) (keys_of (take i c)) ≡ false
-absent_before c i e rising l at = list_any_none (same_key e.0) (keys_of (take i c)) (λ j d m. differ j d m)
-  where
-    differ : (j : ℕ) (d : Bytes) → j < length (keys_of (take i c))
-        → same_key e.0 (get_or (keys_of (take i c)) j d) ≡ false
-    differ j d m =
-        let below : j < i = omega (arith, m, length-keys_of (take i c), length-take i c) in
-        let there = get_or-map (λ (f : Entry). f.0) (take i c) j e d (omega (arith, m, length-keys_of (take i c)))
-        ∙ ap (λ (f : Entry). f.0) (get_or-take i c j e below) in
-        let less =
-        Less-from_sorted (λ (a b : Entry). key_cmp a.0 b.0) c j i e (rising_entries c rising) below l in
-        ap (same_key e.0) there ∙ ap is_eq (flipped (get_or c j e).0 e.0 Less
-        (ap (λ (f : Entry). key_cmp (get_or c j e).0 f.0) (sym at) ∙ less))
-
--- a key of rising counters that passes a test comes after those before it that pass
-pub insert_passing : (may : Entry → Bool) (c : Counters) (i : ℕ) (e : Entry) → IsStrictlySortedBy key_cmp (keys_of c)
-    → i < length c → get_or c i e ≡ e → may e ≡ true
-    → insert_key same_key (keys_of (filter may (take i c))) e.0 ≡ keys_of (filter may (take (i + 1) c))
-insert_passing may c i e rising l at pass =
-    let before = keys_of (filter may (take i c)) in
-    let more : filter may (take (i + 1) c) ≡ filter may (take i c) ++ e ∷ [] = filter_more may c i e l
-    ∙ ap (λ (d : Entry). filter may (take i c) ++ cond (may d) (d ∷ []) []) at
-    ∙ ap (λ b. filter may (take i c) ++ cond b (e ∷ []) []) pass in
-    let none : list_any (same_key e.0) before ≡ false =
-    absent-filter may e.0 (take i c) (absent_before c i e rising l at) in
-    ap (λ b. cond b before (before ++ e.0 ∷ [])) none
-    ∙ sym (ap keys_of more ∙ map-append (λ (d : Entry). d.0) (filter may (take i c)) (e ∷ []))
-
--- one that does not pass changes nothing
-pub passing_stays : (may : Entry → Bool) (c : Counters) (i : ℕ) (e : Entry) → i < length c → get_or c i e ≡ e
-    → may e ≡ false → keys_of (filter may (take i c)) ≡ keys_of (filter may (take (i + 1) c))
-passing_stays may c i e l at pass =
-    let more : filter may (take (i + 1) c) ≡ filter may (take i c) = filter_more may c i e l
-    ∙ ap (λ (d : Entry). filter may (take i c) ++ cond (may d) (d ∷ []) []) at
-    ∙ ap (λ b. filter may (take i c) ++ cond b (e ∷ []) []) pass ∙ append-nil (filter may (take i c)) in
-    ap keys_of (sym more)

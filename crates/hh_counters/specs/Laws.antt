@@ -1,15 +1,15 @@
 -- What holds of the definitions.
-use Rattle.std.specs.Prelude.{◌≡◌, ℕ, ◌+◌, ◌-◌, ◌*◌, ◌<◌, ◌≤◌, ◌↔◌, List, [], ◌∷◌, ◌++◌, All, map, filter, zip, length, replicate, Contains, IsPermutation}
+use Rattle.std.specs.Prelude.{◌≡◌, ℕ, ◌+◌, ◌-◌, ◌*◌, ◌<◌, ◌≤◌, ◌↔◌, List, [], ◌∷◌, ◌++◌, All, filter, zip, length, replicate, Contains, IsPermutation}
 use Rattle.std.specs.List.{AllByRecursion, flat_map}
 use Rattle.std.specs.List.Sorted.{IsStrictlySortedBy}
 use Rattle.std.specs.Map.{keys_of}
 use Rattle.hh_stream.specs.Weights.{Bytes, Entry, IsKey, key_cmp, weight_of, total_of}
 use Rattle.hh_stream.specs.Cuttings.{whole_of}
-use Rattle.hh_summaries.specs.Counters.{Counters, SummaryView, IsCounters, exceeds, IsLevel, level, max_k, plus, join, misra_gries, IsHonest, slack, sketch_with, sketch_of}
+use Rattle.hh_summaries.specs.Counters.{Counters, IsCounters, exceeds, IsLevel, level, max_k, plus, join, misra_gries, IsHonest, slack, sketch_with, sketch_of}
 use Rattle.hh_counters.specs.SpaceSaving.{least_of, translate, IsStep, IsRun, step, space_saving, monitor_of, monitor_with, translation_of}
 use Rattle.hh_counters.specs.Counting.{count_of, count_with}
 use Rattle.hh_counters.specs.Condensed.{IsFirstFree, free_name, entry_of, condensed}
-use Rattle.hh_summaries.specs.Report.{contenders, keys_above, heavy, rank_cmp, rows_above, weights_at, counts_with, has_counter, IsReport}
+use Rattle.hh_summaries.specs.Report.{heavy, rank_cmp, rows_above, weights_at, counts_with, has_counter, IsReport}
 
 -- the counters of a stream are honest for it
 abbrev pub MisraGriesIsHonest : Type 0
@@ -91,21 +91,6 @@ CandidatesSuffice =
     ≡ filter (has_counter c) (heavy xs p q))
     × (IsHonest c (total_of xs) xs k → q ≤ p * (k + 1)
     → rows_above p q (total_of xs) (zip (keys_of c) (weights_at (keys_of c) xs)) ≡ heavy xs p q)
-
--- of an honest summary the contenders for a share are candidates enough
-abbrev pub ContendersSuffice : Type 0
-ContendersSuffice =
-    (s : SummaryView) (xs : List Entry) (p q : ℕ) → IsHonest s.counters s.total xs s.k → q ≤ p * (s.k + 1)
-    → rows_above p q (total_of xs) (zip (keys_of (contenders p q s)) (weights_at (keys_of (contenders p q s)) xs))
-    ≡ heavy xs p q
-
--- where no weight is above its key's bound, the keys whose bound is more than a share are candidates enough
-abbrev pub PrunedSuffice : Type 0
-PrunedSuffice =
-    (ks : List Bytes) (bound : Bytes → ℕ) (xs : List Entry) (p q : ℕ) → ((x : Bytes) → weight_of x xs ≤ bound x)
-    → let some = keys_above p q (total_of xs) ks (map bound ks) in
-    rows_above p q (total_of xs) (zip some (weights_at some xs))
-    ≡ rows_above p q (total_of xs) (zip ks (weights_at ks xs))
 
 -- counting starts at 0, and pieces may be counted one after the other
 abbrev pub CountsAddUp : Type 0

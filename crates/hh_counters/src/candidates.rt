@@ -1,14 +1,14 @@
 //! The keys of a summary as candidates for the report.
 
-ghost use Rattle.std.specs.Prelude.{◌≡◌, ℕ, ◌+◌, ◌*◌, ◌<◌, ◌≤◌, ◌^◌, ◌↔◌, ◌==◌, [], ◌∷◌, All, Contains, IsSome, IfSome, IsOk, IfOk, OnOk, Some, length, slice_get, nat_lt, zip};
+ghost use Rattle.std.specs.Prelude.{◌≡◌, ℕ, ◌+◌, ◌<◌, ◌≤◌, ◌^◌, ◌↔◌, ◌==◌, [], ◌∷◌, All, Contains, IsSome, IfSome, IsOk, IfOk, OnOk, Some, length, slice_get, zip};
 ghost use Rattle.std.specs.List.Sorted.{IsStrictlySortedBy};
 ghost use Rattle.std.specs.Map.{keys_of};
 ghost use Rattle.indexmap.specs.IndexSet.{insert_key};
 ghost use Rattle.hh_stream.specs.Weights.{key_cmp, same_key, total_of};
 ghost use Rattle.hh_summaries.specs.Counters.{max_k, IsCounters};
-ghost use Rattle.hh_summaries.specs.Report.{IsShare, contenders, counts_with, rows_above, keys_above};
+ghost use Rattle.hh_summaries.specs.Report.{IsShare, counts_with, rows_above};
 
-use crate::report::{Heavy, is_heavy, selected_rows};
+use crate::report::{Heavy, selected_rows};
 use hh_stream::{BorrowedKey, Item, Key, KeyHash};
 use hh_summaries::Summary;
 use indexmap::IndexSet;
@@ -67,47 +67,6 @@ impl Candidates {
         Ok(Candidates { keys })
     }
 
-    /// The keys that can have more than p/q of the total, as far as the counters tell: a counter is
-    /// at most [`slack`](Summary::slack) below its key's weight. p/q is at most 1, and q at most
-    /// [`MAX_Q`](crate::MAX_Q). They are hashed as those of [`of`](Candidates::of).
-    pub fn contenders(
-        alloc: Global,
-        summary: &Summary,
-        p: u64,
-        q: u64,
-    ) -> Result<Candidates, AllocError>
-        requires share { IsShare p q }
-        ensures keys { IfOk result (λ candidates.
-            candidates ≡ keys_of (contenders p q summary.now)) }
-        ensures few { IfOk result (λ candidates. length candidates ≤ length summary.now.counters) }
-    {
-        Candidates::contenders_with_hasher(alloc, summary, p, q, KeyHash::fixed())
-    }
-
-    /// [`contenders`](Candidates::contenders), with keys hashed by `hash`.
-    pub fn contenders_with_hasher(
-        alloc: Global,
-        summary: &Summary,
-        p: u64,
-        q: u64,
-        hash: KeyHash,
-    ) -> Result<Candidates, AllocError>
-        requires share { IsShare p q }
-        ensures keys { IfOk result (λ candidates.
-            candidates ≡ keys_of (contenders p q summary.now)) }
-        ensures few { IfOk result (λ candidates. length candidates ≤ length summary.now.counters) }
-    {
-        let mut keys = IndexSet::with_hasher(alloc, hash);
-        let sum = summary.sum();
-        for i in 0..summary.len() {
-            let (key, counter) = summary.entry(i);
-            if can_be_heavy(counter, summary.k(), summary.total(), sum, p, q) {
-                insert_copy(&mut keys, key)?;
-            }
-        }
-        Ok(Candidates { keys })
-    }
-
     /// The keys of some entries by rising key, hashed by `hash`.
     pub fn of_entries(
         alloc: Global,
@@ -120,31 +79,6 @@ impl Candidates {
         let mut keys = IndexSet::with_capacity_and_hasher(alloc, entries.len(), hash)?;
         for i in 0..entries.len() {
             insert_copy(&mut keys, &entries[i].0)?;
-        }
-        Ok(Candidates { keys })
-    }
-
-    /// Those candidates of which the number is more than p/q of the total, where `numbers` has one
-    /// for each place. Numbers that are not below the keys' weights leave each heavy key. p/q is at
-    /// most 1, and q at most [`MAX_Q`](crate::MAX_Q). They are hashed as these are.
-    pub fn pruned(
-        &self,
-        numbers: &[u64],
-        total: u64,
-        p: u64,
-        q: u64,
-    ) -> Result<Candidates, AllocError>
-        requires lengths { length numbers.now ≡ length self.now }
-        requires share { IsShare p q }
-        ensures keys { IfOk result
-            (λ candidates. candidates ≡ keys_above p q total self.now numbers.now) }
-        ensures few { IfOk result (λ candidates. length candidates ≤ length self.now) }
-    {
-        let mut keys = IndexSet::with_hasher(*self.keys.allocator(), *self.keys.hasher());
-        for i in 0..numbers.len() {
-            if is_heavy(numbers[i], p, q, total) {
-                insert_copy(&mut keys, &self.keys.as_slice()[i])?;
-            }
         }
         Ok(Candidates { keys })
     }
@@ -256,16 +190,4 @@ fn insert_copy(keys: &mut IndexSet<Key, KeyHash>, key: &Key) -> Result<(), Alloc
 {
     keys.insert(key.copy()?)?;
     Ok(())
-}
-
-// Whether a key with this counter can have more than p/q of the total.
-fn can_be_heavy(counter: u64, k: u64, total: u64, sum: u64, p: u64, q: u64) -> bool
-    requires k { k ≤ max_k }
-    requires share { IsShare p q }
-    ensures { result
-        ≡ nat_lt (p * total * (k + 1) + q * sum) (q * (total + (k + 1) * counter)) }
-{
-    let (k, total) = (u128::from(k), u128::from(total));
-    let (p, q) = (u128::from(p), u128::from(q));
-    p * total * (k + 1) + q * u128::from(sum) < q * (total + (k + 1) * u128::from(counter))
 }

@@ -1,6 +1,6 @@
 //! Laws of the definitions in `specs/`. Each function does nothing: its contract is the law.
 
-ghost use Rattle.hh_counters.specs.Laws.{MisraGriesIsHonest, JoinOfHonestIsHonest, HeavyKeysHaveCounters, CountersBoundWeights, LevelIsLeast, SumIsByKey, JoinTakesTheLevel, ReportIsExact, ReportIsUnique, RowsAreExact, HonestIsNear, HonestInAnyOrder, HonestByWeights, CandidatesSuffice, ContendersSuffice, PrunedSuffice, CountsAddUp, CountsFollowItems, CountsStayWithin, RunSumsToTotal, RunBoundsWeights, TranslationIsMisraGries, StepsAreARun, RunsGoOn, RunsTakeTheStep, SummariesFollowItems, MonitorsFollowItems, FreeNameIsFirst, CondensedKeepsWeights, CondensedAreItems, CondensedAreFew, FoundByWeights, CondensedPartsSuffice, CondensedPartsReport, CondensedIsCounted};
+ghost use Rattle.hh_counters.specs.Laws.{MisraGriesIsHonest, JoinOfHonestIsHonest, HeavyKeysHaveCounters, CountersBoundWeights, LevelIsLeast, SumIsByKey, JoinTakesTheLevel, ReportIsExact, ReportIsUnique, RowsAreExact, HonestIsNear, HonestInAnyOrder, HonestByWeights, CandidatesSuffice, CountsAddUp, CountsFollowItems, CountsStayWithin, RunSumsToTotal, RunBoundsWeights, TranslationIsMisraGries, StepsAreARun, RunsGoOn, RunsTakeTheStep, SummariesFollowItems, MonitorsFollowItems, FreeNameIsFirst, CondensedKeepsWeights, CondensedAreItems, CondensedAreFew, FoundByWeights, CondensedPartsSuffice, CondensedPartsReport, CondensedIsCounted};
 
 /// The Misra-Gries counters of a list of items are honest for it (Misra and Gries 1982).
 pub fn misra_gries_is_honest()
@@ -53,18 +53,6 @@ pub fn report_is_exact()
 /// they are the report.
 pub fn candidates_suffice()
     ensures { CandidatesSuffice }
-{}
-
-/// Of an honest summary the keys whose counters allow more than a share are candidates enough for
-/// the report above that share.
-pub fn contenders_suffice()
-    ensures { ContendersSuffice }
-{}
-
-/// Of candidates those are enough of which a number that is not below the key's weight is more than
-/// the share.
-pub fn pruned_suffice()
-    ensures { PrunedSuffice }
 {}
 
 /// Candidates counted from 0 have their weights, and counting piece by piece is counting all.

@@ -1,5 +1,0 @@
-use Rattle.hh_counters.proofs.laws.pruned_suffice.Goals as goal
-use Rattle.hh_summaries.proofs.Reports.{report_from_pruned}
-
-pub returns : goal.returns
-returns c = report_from_pruned
