@@ -145,11 +145,14 @@ class Tallies(programs.Checks):
         results = [line.rpartition(b"= ")[2] for line in Path(log).read_bytes().splitlines()]
         return sum(int(result) for result in results if result.isdigit()), ended.out
 
+    def want_strace(self) -> None:
+        if not shutil.which("strace") or programs.run(["strace", "-qq", "-o", "/dev/null", "true"], env=dict(os.environ)).status != 0:
+            self.skipTest("what is read wants strace, and leave to trace")
+
     def test_readings(self) -> None:
         """A report reads a file once where each key that can be heavy has kept its counter since before any was lost, and
         twice where one came late, or lost its counter and came again. It is exact all the same. So do the greatest keys."""
-        if not shutil.which("strace") or programs.run(["strace", "-qq", "-o", "/dev/null", "true"], env=dict(os.environ)).status != 0:
-            self.skipTest("what is read wants strace, and leave to trace")
+        self.want_strace()
         others = [b"other%015d,1\n" % number for number in range(10 * ROOM)]
         early = [b"early,%d\n" % (number % 9 + 1) for number in range(2 * ROOM)]
         late = [b"late,%d\n" % (number % 9 + 1) for number in range(2 * ROOM)]
@@ -168,6 +171,18 @@ class Tallies(programs.Checks):
                 read, out = self.bytes_read(*words, "--workers", "1", *self.files([text]))
                 self.check(f"{words[0]} of {name}", out == rows, out)
                 self.check(f"{words[0]} reads {name} {times} times", times <= read / len(text) < times + 0.5, read / len(text))
+
+    def test_readings_for_notes(self) -> None:
+        """For notes nothing but the ends of a file is read again: with --explain one worker reads a long file once."""
+        self.want_strace()
+        for name, row in (("plain", b"other%015d,1\n"), ("quoted", b'"other%015d",1\n')):
+            text = b"early,%d\n" % (200 * ROOM) + b"".join(row % number for number in range(120 * ROOM))
+            paths = self.files([text])
+            for words in (["report"], ["summarise"], ["table"], ["report", "--pieces", "2"]):
+                words = [*words, "--workers", "1"]
+                plain, told = (self.bytes_read(*words, *more, *paths)[0] for more in ([], ["--explain"]))
+                self.check(f"{words} reads {name} records once", 1 <= told / len(text) <= 1.05, told / len(text))
+                self.check(f"{words} reads no more than the first bytes for --explain", told - plain <= 65_536, told - plain)
 
     def test_reports(self) -> None:
         """A report by tallies has the rows and the refusals of that which one thread makes by a plan."""

@@ -69,7 +69,6 @@ fn top<T: Threads + Wait + Sync, H: Host>(
         memory: memory.saturating_mul(MEGABYTE),
     };
     let bytes = top_files(threads, host.alloc(), &options, rows, files.records())?;
-    files.note_last_record(host);
     Ok(bytes)
 }
 
@@ -187,7 +186,6 @@ fn report<T: Threads + Wait + Sync, H: Host, S: Sink>(
     check_options(options)?;
     let files = into_kept(host, opened)?;
     report_files(threads, alloc, options, rows, files.records(), sink)?;
-    files.note_last_record(host);
     Ok(())
 }
 

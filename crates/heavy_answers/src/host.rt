@@ -58,10 +58,6 @@ pub trait Host: FileSource {
     fn is_whole(&self, file: &Self::File) -> bool
         ensures part { result ≡ false → Self.File.bytes file.now ≡ None };
 
-    /// Notes the size of the last record of `file`, once workers have read it, if the record began
-    /// with a quote and is long, for the note on it that is printed at the end.
-    fn note_last_record(&self, file: &Self::File);
-
     /// Watches how many bad records a reading by `layout` counts as its key, for the line on them
     /// that is printed at the end.
     fn watch_bad(&self, layout: &Layout);
@@ -105,10 +101,6 @@ impl<'a> Host for Inputs<'a> {
 
     fn is_whole(&self, file: &OpenFile<'a>) -> bool {
         file.is_whole()
-    }
-
-    fn note_last_record(&self, file: &OpenFile<'a>) {
-        Inputs::note_last_record(*self, file);
     }
 
     fn watch_bad(&self, layout: &Layout) {

@@ -126,13 +126,6 @@ impl<F> KeptRecords<F> {
             sources: &self.files,
         }
     }
-
-    /// Has the host note how each of them ends, once workers have read them.
-    pub(crate) fn note_last_record<H: Host<File = F>>(&self, host: &H) {
-        for file in &self.files {
-            host.note_last_record(file);
-        }
-    }
 }
 
 /// Inputs of records that are open, with the layout of the records.

@@ -149,7 +149,6 @@ pub(crate) fn in_one_pass<T: Threads + Wait + Sync, H: Host>(
                 records,
                 compared,
             )?;
-            files.note_last_record(host);
             Ok(bytes)
         }
         OnePass::Stream(records) => answer_by_one_thread(

@@ -2,8 +2,9 @@
 
 use crate::columns::{Missing, column_place, missing_field};
 use crate::escaped::{Name, print_about};
-use crate::first_bytes::{begin_of, other_format};
+use crate::first_bytes::other_format;
 use crate::record_place::{RecordPlace, Text, Texts};
+use crate::samples::first_of;
 use hh_faults::BadRecordCause;
 use hh_records::LayoutWords;
 use std::fmt::{self, Display};
@@ -122,10 +123,8 @@ fn verdict_on<'a>(texts: Texts<'a>, place: &RecordPlace<'_>, cause: BadRecordCau
 /// Names the format that `text` begins as, where it is one that no command reads and the text can
 /// be looked at again.
 fn format_of(texts: Texts<'_>, text: Text<'_>) -> Option<&'static str> {
-    match texts.begin.of(text.number) {
-        Some(first) => other_format(&first.bytes),
-        None => other_format(&begin_of(texts.rt, text.name)?),
-    }
+    let (bytes, _) = first_of(texts, text)?;
+    other_format(&bytes)
 }
 
 /// Prints where a record stands, how it begins and what is wrong with it.

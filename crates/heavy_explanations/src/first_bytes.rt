@@ -5,7 +5,7 @@ use std::fs::{self, File};
 use std::io::Read;
 
 /// The most bytes of a file that show what it looks like.
-const BEGIN: u64 = 65_536;
+pub(crate) const BEGIN: u64 = 65_536;
 
 /// A format by the bytes that a file of it begins with, and what is said of such a file.
 type Begins = (&'static [u8], &'static str);
@@ -78,14 +78,18 @@ pub(crate) fn disk_file(rt: &HostRuntime, name: &[u8]) -> Option<File> {
     }
 }
 
-/// Reads the first bytes of the file `name`, where it is one of the disk.
-pub(crate) fn begin_of(rt: &HostRuntime, name: &[u8]) -> Option<Vec<u8>> {
-    let file = disk_file(rt, name)?;
+/// Reads the first bytes of `file`.
+pub(crate) fn bytes_of(rt: &HostRuntime, file: File) -> Option<Vec<u8>> {
     let mut bytes = Vec::new(rt.alloc());
     match file.take(BEGIN).read_to_end(&mut bytes) {
         Ok(_) => Some(bytes),
         Err(_) => None,
     }
+}
+
+/// Reads the first bytes of the file `name`, where it is one of the disk.
+pub(crate) fn begin_of(rt: &HostRuntime, name: &[u8]) -> Option<Vec<u8>> {
+    bytes_of(rt, disk_file(rt, name)?)
 }
 
 /// Prints what the file `name`, which is refused, looks like by its first bytes.

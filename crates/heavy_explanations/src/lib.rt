@@ -11,6 +11,7 @@ mod first_bytes;
 mod notes;
 mod reasons;
 mod record_place;
+mod samples;
 mod saved_kinds;
 mod status;
 mod thresholds;

@@ -6,12 +6,20 @@ use crate::thresholds::{MOST_COUNTERS, is_least};
 use heavy_progress::{FormatHints, LongRecord};
 use heavy_requests::{Invocation, Request};
 use hh_output::Form;
+use hh_records::{Format, LayoutWords};
 use hh_rows::Share;
 use std::fmt::{self, Display};
 
-/// Prints where records that were read look like another format, and at the end of which of the
-/// inputs with these `names` a quote is open.
-pub(crate) fn print_format_hint(rt: &HostRuntime, hints: FormatHints, names: FileNames<'_>) {
+/// Whether no option says how records are parted: none of `layout`.
+pub(crate) fn is_unparted(layout: &LayoutWords) -> bool {
+    layout.delimiter.is_none()
+        && layout.format == Format::Csv
+        && layout.key.is_empty()
+        && layout.weight.is_none()
+}
+
+/// Prints where records that were read look like another format.
+pub(crate) fn print_format_hint(rt: &HostRuntime, hints: FormatHints) {
     if hints.are_objects() {
         let _ = rt.eprintln(
             "heavy: note: most lines begin with {: --json --key NAME reads objects",
@@ -22,7 +30,11 @@ pub(crate) fn print_format_hint(rt: &HostRuntime, hints: FormatHints, names: Fil
             --delimiter '{word}'"
         );
     }
-    if let Some(number) = hints.open {
+}
+
+/// Prints at the end of which of the inputs with these `names` a quote is open.
+pub(crate) fn print_open(rt: &HostRuntime, open: Option<u64>, names: FileNames<'_>) {
+    if let Some(number) = open {
         let name = names.input(number);
         let _ = eprintln!(rt; "heavy: note: a quote is open at the end of {name}");
     }

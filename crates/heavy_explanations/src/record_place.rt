@@ -75,6 +75,15 @@ impl<'a> Text<'a> {
     pub(crate) fn called(self) -> Name<'a> {
         input_name(self.name, self.number)
     }
+
+    /// Gives its file, where it is one of the disk.
+    pub(crate) fn file(self, rt: &HostRuntime) -> Option<File> {
+        if self.name == b"-".as_slice() {
+            None
+        } else {
+            disk_file(rt, self.name)
+        }
+    }
 }
 
 /// Where a record stands, and how it begins.
@@ -240,10 +249,7 @@ impl<'a> Texts<'a> {
             let has_come = search.take_all(without_mark(&first.bytes)).ok()?;
             return (has_come || first.is_whole).then_some(());
         }
-        if text.name == b"-".as_slice() {
-            return None;
-        }
-        search.take_file(self.rt.alloc(), disk_file(self.rt, text.name)?)
+        search.take_file(self.rt.alloc(), text.file(self.rt)?)
     }
 
     /// Looks in `text` for the record after `before` others, where the text can be looked at

@@ -12,8 +12,11 @@ use crate::explain::{
     explain_comparison, explain_file, explain_records, explain_top, names_records,
 };
 use crate::file_names::FileNames;
-use crate::notes::{print_bad, print_few_keys, print_format_hint, print_long};
+use crate::notes::{
+    is_unparted, print_bad, print_few_keys, print_format_hint, print_long, print_open,
+};
 use crate::record_place::Texts;
+use crate::samples::{format_hints, with_files};
 use crate::thresholds::tell_threshold;
 use heavy_host::{numbered, print_fault, status_after};
 use heavy_inputs::Inputs;
@@ -26,6 +29,16 @@ use std::process::ExitCode;
 /// The exit status of the command line's own faults.
 const USAGE: u8 = 2;
 
+/// Gathers what can be looked at again of the records that `asked` names.
+fn texts_of<'a>(inputs: Inputs<'a>, asked: &'a Invocation) -> Texts<'a> {
+    Texts {
+        rt: inputs.rt,
+        records: &asked.records,
+        saved: asked.request.saved_before_records(),
+        begin: &inputs.notes.begin,
+    }
+}
+
 /// Prints more about the `fault` of what was `asked` for, by what was noted of the inputs and
 /// `compared`.
 fn explain(inputs: Inputs<'_>, fault: &ToolError, asked: &Invocation, compared: &Comparison) {
@@ -37,13 +50,7 @@ fn explain(inputs: Inputs<'_>, fault: &ToolError, asked: &Invocation, compared: 
     explain_file(rt, names, fault, &notes.unread);
     explain_comparison(rt, names.name(1), fault, compared, records.layout.decimals);
     explain_top(rt, fault, asked);
-    let texts = Texts {
-        rt,
-        records,
-        saved: asked.request.saved_before_records(),
-        begin: &notes.begin,
-    };
-    explain_records(texts, fault);
+    explain_records(texts_of(inputs, asked), fault);
 }
 
 /// Prints a fault of what was asked for. More about it comes where that is asked for, standard
@@ -94,12 +101,17 @@ pub fn status_of_usage(rt: &HostRuntime, report: &UsageReport) -> ExitCode
 /// Prints notes on what was read and on what was `compared`, and on the `rows` that were written.
 fn print_notes(inputs: Inputs<'_>, asked: &Invocation, compared: &Comparison, rows: u64) {
     let (rt, layout) = (inputs.rt, &asked.records.layout);
-    let (hints, names) = (inputs.notes.hints.get(), FileNames::of(asked));
+    let (texts, names) = (texts_of(inputs, asked), FileNames::of(asked));
+    let endings = with_files(inputs.notes.endings.get(), texts, inputs.form.delimiter);
     if asked.explains_faults(rt) {
-        print_format_hint(rt, hints, names);
+        let hints = format_hints(texts, inputs.form);
+        if is_unparted(layout) {
+            print_format_hint(rt, hints);
+        }
+        print_open(rt, endings.open, names);
         print_few_keys(rt, asked, rows, hints.has_records);
     }
-    print_long(rt, hints.long, names);
+    print_long(rt, endings.long, names);
     print_bad(rt, inputs.notes.bad.count(), &layout.bad_as);
     if let Some(outside) = &compared.outside {
         let words = "heavy: note: these aren't the records that were summarised: ";
@@ -129,10 +141,7 @@ pub fn status_of(
     ensures refused { IfErr outcome (λ fault. exit_status result ≡ status_of fault) }
 {
     match &outcome {
-        Ok(()) => {
-            inputs.look(asked);
-            print_notes(inputs, asked, compared, rows);
-        }
+        Ok(()) => print_notes(inputs, asked, compared, rows),
         Err(fault) => {
             let number = inputs.notes.unread.number().max(first_number(asked));
             print_explained(inputs, &numbered(*fault, number), asked, compared);

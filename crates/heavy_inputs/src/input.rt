@@ -4,7 +4,7 @@ ghost use Rattle.std.specs.Prelude.{None};
 ghost use Rattle.std.specs.Io.{ReadsAtMost};
 
 use crate::notes::InputNotes;
-use heavy_progress::{ProgressReader, Watch};
+use heavy_progress::{ProgressReader, Tail};
 use hh_pieces::{GrowingFile, ReadAt};
 use std::fs::{File, Metadata};
 use std::io::{self, Read, Stdin};
@@ -67,13 +67,27 @@ pub struct Input<'a> {
     pub(crate) notes: &'a InputNotes,
     /// Whether its first bytes are kept there too, since it can't be read again.
     pub(crate) keeps_begin: bool,
-    /// What sees its bytes.
-    pub(crate) watch: Watch<'a>,
+    /// The byte between two fields; a quote, where no field is quoted.
+    pub(crate) delimiter: u8,
+    /// Its last bytes, up to its end, if it can't be read again.
+    pub(crate) tail: Option<Tail>,
 }
 
 impl<'a> Input<'a> {
-    /// Notes the `outcome` of a read into `buf`: its error, or the bytes for what keeps and what
-    /// sees them.
+    /// Takes the next `bytes` for what is said of its end. None are the end.
+    fn note_end(&mut self, bytes: &[u8]) {
+        if !bytes.is_empty() {
+            if let Some(tail) = &mut self.tail {
+                tail.add(bytes);
+            }
+        } else if let Some(tail) = self.tail.take() {
+            let endings = self.notes.endings.get();
+            let ending = tail.ending(self.delimiter);
+            self.notes.endings.set(endings.with(self.number, ending));
+        }
+    }
+
+    /// Notes the `outcome` of a read into `buf`: its error, or the bytes for what keeps them.
     fn note(&mut self, outcome: &io::Result<usize>, buf: &[u8]) {
         let count = match outcome {
             Ok(count) => count,
@@ -86,7 +100,7 @@ impl<'a> Input<'a> {
             if self.keeps_begin {
                 self.notes.begin.add(self.number, bytes);
             }
-            self.watch.add(bytes);
+            self.note_end(bytes);
         }
     }
 }

@@ -3,27 +3,16 @@
 ghost use Rattle.std.specs.Prelude.{◌≡◌, ◌⊎◌, IfErr};
 ghost use Rattle.heavy_host.specs.Opening.{FailsToOpen};
 
-use crate::disk_file::{DiskFile, LOOK_LEN};
+use crate::disk_file::DiskFile;
 use crate::input::{Input, InputSource, Reader, len_in, source_of};
 use crate::kept_pipe::keep_pipe;
 use crate::notes::InputNotes;
 use crate::open_file::OpenFile;
-use heavy_host::{Named, is_standard, open_file, open_input};
-use heavy_progress::{Form, ProgressReader, SharedProgress, Watch};
-use heavy_requests::{Invocation, MEGABYTE, RecordWords};
+use heavy_host::{Named, open_input};
+use heavy_progress::{Form, ProgressReader, SharedProgress, Tail};
+use heavy_requests::{Invocation, MEGABYTE};
 use hh_faults::ToolError;
-use hh_records::Format;
 use std::fs;
-use std::io::Read;
-
-/// Reads `input` to its end, for its watch.
-fn read_all(input: &mut Input<'_>, buffer: &mut [u8]) {
-    for _ in 0..u64::MAX {
-        if let Ok(0) | Err(_) = input.read(buffer) {
-            return;
-        }
-    }
-}
 
 /// An input of records that is open.
 #[derive(Drop)]
@@ -51,11 +40,7 @@ pub struct Inputs<'a> {
     /// Whether the first bytes of an input that can't be read again may be printed, and are kept.
     keeps_begin: bool,
     /// How records are parted.
-    form: Form,
-    /// Whether notes on their format are printed.
-    prints_hints: bool,
-    /// Whether no option says how they are parted.
-    looks_for_format: bool,
+    pub form: Form,
     /// How many bytes of a pipe are kept in memory, where it is read twice.
     most_kept: u64,
 }
@@ -70,40 +55,16 @@ impl<'a> Inputs<'a> {
         notes: &'a InputNotes,
         progress: Option<&'a SharedProgress<'a>>,
     ) -> Inputs<'a> {
-        let layout = &asked.records.layout;
-        let explains = asked.explains_faults(rt);
         Inputs {
             rt,
             notes,
             progress,
-            keeps_begin: explains || !asked.records.are_plain(),
+            keeps_begin: asked.explains_faults(rt) || !asked.records.are_plain(),
             form: Form {
                 delimiter: asked.records.parting_byte().unwrap_or(b','),
-                has_header: layout.has_header,
+                has_header: asked.records.layout.has_header,
             },
-            prints_hints: explains,
-            looks_for_format: layout.delimiter.is_none()
-                && layout.format == Format::Csv
-                && layout.key.is_empty()
-                && layout.weight.is_none(),
             most_kept: asked.memory.saturating_mul(MEGABYTE),
-        }
-    }
-
-    /// Makes an input of `source` with its `number`, whose first bytes are kept where
-    /// `keeps_begin` is set.
-    fn input(self, source: InputSource, number: u64, keeps_begin: bool) -> Input<'a> {
-        Input {
-            source,
-            number,
-            notes: self.notes,
-            keeps_begin,
-            watch: Watch::new(
-                &self.notes.hints,
-                number,
-                self.form,
-                self.prints_hints && self.looks_for_format,
-            ),
         }
     }
 
@@ -122,8 +83,15 @@ impl<'a> Inputs<'a> {
     /// Makes a reader of an open `input`.
     pub fn reader(self, input: OpenInput) -> Reader<'a> {
         let size = self.len_of(&input.source);
-        let keeps_begin = self.keeps_begin && !input.is_disk_file();
-        let inner = self.input(input.source, input.number, keeps_begin);
+        let is_read_once = !input.is_disk_file();
+        let inner = Input {
+            source: input.source,
+            number: input.number,
+            notes: self.notes,
+            keeps_begin: self.keeps_begin && is_read_once,
+            delimiter: self.form.delimiter,
+            tail: is_read_once.then_some(Tail::new(self.rt.alloc())),
+        };
         let all = match self.progress {
             Some(_) => Some(&self.notes.progress),
             None => None,
@@ -140,25 +108,18 @@ impl<'a> Inputs<'a> {
         let OpenInput { source, number } = input;
         match source {
             InputSource::Disk(file, _) => {
-                let unread = &self.notes.unread;
-                let disk = DiskFile::new(file, number, unread, self.progress);
-                Ok(OpenFile::Disk(disk))
+                Ok(OpenFile::Disk(DiskFile {
+                    file,
+                    number,
+                    unread: &self.notes.unread,
+                    progress: self.progress,
+                }))
             }
             source => {
                 let pipe = self.reader(OpenInput { source, number });
                 let kept = keep_pipe(self.rt, pipe, self.most_kept, &self.notes.unread)?;
                 Ok(OpenFile::Kept(kept))
             }
-        }
-    }
-
-    /// Notes the last record of a file that workers have read, where it began with a quote and is
-    /// long.
-    pub fn note_last_record(self, file: &OpenFile<'_>) {
-        if let OpenFile::Disk(disk) = file {
-            let size = disk.last_record(self.rt.alloc(), self.form.delimiter);
-            let hints = self.notes.hints.get();
-            self.notes.hints.set(hints.with_last(disk.number, size));
         }
     }
 
@@ -177,55 +138,6 @@ impl<'a> Inputs<'a> {
             InputSource::Disk(file, _) => Some(file.first_len()),
             InputSource::File(file) => len_in(&file.metadata().ok()?),
             InputSource::Nothing => Some(0),
-        }
-    }
-
-    /// Whether `name` is a file of the disk that isn't empty. A pipe isn't opened for it, since it
-    /// can be opened once.
-    fn is_disk_file(self, name: &[u8]) -> bool {
-        match str::from_utf8(name) {
-            Ok(path) => !is_standard(name) && self.len_at(path).unwrap_or(0) > 0,
-            Err(_) => false,
-        }
-    }
-
-    /// Whether a command line names files of records, and all of them are files of the disk that
-    /// have a size.
-    fn have_size(self, words: &RecordWords) -> bool {
-        !words.files.is_empty() && words.files.iter().all(|name| self.is_disk_file(name))
-    }
-
-    /// Reads the file `name` of the disk, for a watch.
-    fn look_at(self, name: &[u8], number: u64) {
-        if !self.is_disk_file(name) {
-            return;
-        }
-        let Ok(file) = open_file(self.rt, name, number, &self.notes.unread) else {
-            return;
-        };
-        let Ok(mut buffer) = vec![in self.rt.alloc(); 0u8; LOOK_LEN] else {
-            return;
-        };
-        let source = source_of(file, self.form.quoted_by());
-        let mut input = self.input(source, number, false);
-        read_all(&mut input, &mut buffer);
-    }
-
-    /// Reads once more, in order, the files that workers have read, where notes on their format are
-    /// printed.
-    pub fn look(self, asked: &Invocation) {
-        let (words, saved) = (&asked.records, asked.request.saved_before_records());
-        let has_workers = match asked.request.passes() {
-            0 => false,
-            1 => self.have_size(words),
-            _ => true,
-        };
-        if !self.prints_hints || !has_workers {
-            return;
-        }
-        for (place, name) in words.files.iter().enumerate() {
-            let number = saved.saturating_add(place as u64).saturating_add(1);
-            self.look_at(name, number);
         }
     }
 }

@@ -2,7 +2,7 @@
 
 use crate::bad_count::BadCount;
 use heavy_host::Unread;
-use heavy_progress::{Begin, FormatHints, NOTHING, ReadProgress};
+use heavy_progress::{Begin, Endings, ReadProgress};
 use std::alloc::Global;
 use std::cell::Cell;
 
@@ -11,8 +11,8 @@ use std::cell::Cell;
 pub struct InputNotes {
     /// The input that can't be read, and why.
     pub unread: Unread,
-    /// What was seen in the inputs.
-    pub hints: Cell<FormatHints>,
+    /// How the inputs end that can't be read again.
+    pub endings: Cell<Endings>,
     /// How many records were bad and counted as a key.
     pub bad: BadCount,
     /// The first bytes of the inputs that can't be read again.
@@ -26,7 +26,7 @@ impl InputNotes {
     pub fn new(alloc: Global) -> InputNotes {
         InputNotes {
             unread: Unread::new(),
-            hints: Cell::new(NOTHING),
+            endings: Cell::new(Endings::new()),
             bad: BadCount::new(),
             begin: Begin::new(alloc),
             progress: ReadProgress::new(),

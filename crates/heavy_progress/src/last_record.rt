@@ -1,15 +1,26 @@
-//! The last record of a text: whether it began with a quote, and how long it is.
+//! How a text ends: whether a quote is open there, and whether its last record is long.
 
 use crate::record_count::RecordState;
 
-/// The most bytes of a record that begins with a quote and isn't reported.
-const MOST_BYTES: u64 = 65_536;
+/// The most bytes at the end of a text by which this is said.
+pub const MOST_LAST: usize = 65_536;
 
-/// The most lines of such a record.
+/// The bytes by which it is mostly known.
+const FEW_LAST: usize = 512;
+
+/// The most lines of a record that begins with a quote and isn't long.
 const MOST_LINES: u64 = 100;
 
-/// The bytes at an end of those that came at once by which the last record is mostly known.
-const TAIL: usize = 512;
+/// What the byte before the last ones of a text may have been part of.
+const PLACES: [RecordState; 7] = [
+    RecordState::Mark(1),
+    RecordState::Mark(2),
+    RecordState::Between,
+    RecordState::FieldEnd,
+    RecordState::Plain,
+    RecordState::Quoted,
+    RecordState::Quote,
+];
 
 /// The size of a record.
 #[derive(Clone, Copy, PartialEq, Eq)]
@@ -18,64 +29,61 @@ pub struct RecordSize {
     pub lines: u64,
 }
 
+/// How a text ends.
+#[derive(Clone, Copy, PartialEq, Eq)]
+pub struct Ending {
+    /// Whether a quote is open.
+    pub is_open: bool,
+    /// The size of the last record, where it began with a quote and has more than 100 lines: a
+    /// quote that is never closed takes the rest of a text.
+    pub long: Option<RecordSize>,
+}
+
+/// The end of a text of which nothing is to be said.
+const PLAIN: Ending = Ending {
+    is_open: false,
+    long: None,
+};
+
 /// Whether `byte` ends a line.
 fn ends_line(byte: u8) -> bool {
     matches!(byte, b'\r' | b'\n')
 }
 
-/// Finds where the last record of `bytes` begins that a line end stands before. The bytes have no
-/// quote, and begin in none.
-fn last_begin(bytes: &[u8]) -> Option<usize> {
-    let last = bytes.iter().rposition(|byte| !ends_line(*byte))?;
-    let end = bytes
-        .get(..last)?
-        .iter()
-        .rposition(|byte| ends_line(*byte))?;
-    end.checked_add(1)
-}
-
 /// Follows the last record of a text whose bytes come in order.
-#[derive(Clone, Copy, PartialEq, Eq)]
-pub struct LastRecord {
+#[derive(Clone, Copy)]
+struct LastRecord {
     delimiter: u8,
     place: RecordState,
-    /// Whether the record's first byte is a quote.
+    /// Whether its first byte came.
+    has_begun: bool,
+    /// Whether that is a quote.
     is_quoted: bool,
     size: RecordSize,
     /// The byte before the next one.
     previous: u8,
+    /// Whether nothing but a delimiter or a line end came after a quoted field.
+    is_sound: bool,
 }
 
 impl LastRecord {
-    /// Begins a text with `delimiter` between its fields, which a byte order mark may begin.
-    pub fn new(delimiter: u8) -> LastRecord {
-        LastRecord {
-            delimiter,
-            place: RecordState::Mark(0),
-            is_quoted: false,
-            size: RecordSize { bytes: 0, lines: 0 },
-            previous: b'\n',
-        }
-    }
-
-    /// Begins within a text, where the byte before left `place`. The record there may have begun
-    /// with a quote, and be long.
-    fn within(delimiter: u8, place: RecordState) -> LastRecord {
+    /// Begins after a byte that left `place`, with `delimiter` between the fields of the text.
+    fn after(place: RecordState, delimiter: u8) -> LastRecord {
         LastRecord {
             delimiter,
             place,
-            is_quoted: delimiter != b'"',
-            size: RecordSize {
-                bytes: MOST_BYTES + 1,
-                lines: 1,
-            },
+            has_begun: false,
+            is_quoted: false,
+            size: RecordSize { bytes: 0, lines: 0 },
             previous: b'\n',
+            is_sound: true,
         }
     }
 
     /// Begins a record with `byte`.
     fn begin(&mut self, byte: u8) {
-        self.is_quoted = byte == b'"' && self.delimiter != b'"';
+        self.has_begun = true;
+        self.is_quoted = byte == b'"';
         self.size = RecordSize { bytes: 1, lines: 1 };
     }
 
@@ -97,125 +105,117 @@ impl LastRecord {
                 self.begin(byte);
             }
         }
+        if matches!((self.place, next), (RecordState::Quote, RecordState::Plain)) {
+            self.is_sound = false;
+        }
         self.previous = byte;
         self.place = next;
     }
 
-    /// Takes the next bytes one by one.
+    /// Takes the next bytes.
     fn take_all(&mut self, bytes: &[u8]) {
         for byte in bytes {
             self.take(*byte);
         }
     }
 
-    /// Takes the next bytes. Where they have no quote and none is open, those before their last
-    /// record are skipped: the line end before it ends each other one. Else all but the last few
-    /// are skipped where these alone say how the last record stands.
-    pub fn add(&mut self, bytes: &[u8]) {
-        if self.place.is_open() || bytes.contains(&b'"') {
-            match self.known_by_tail(bytes) {
-                Some(known) => *self = known,
-                None => self.take_all(bytes),
-            }
-            return;
-        }
-        match last_begin(bytes) {
-            Some(begin) => {
-                self.place = RecordState::Between;
-                self.take_all(bytes.get(begin..).unwrap_or(bytes));
-            }
-            None => self.take_all(bytes),
-        }
-    }
-
-    /// Follows the last of `bytes` alone, where from any place they lead to one record that begins
-    /// among them. They aren't to begin where a byte order mark may be.
-    fn known_by_tail(&self, bytes: &[u8]) -> Option<LastRecord> {
-        if matches!(self.place, RecordState::Mark(_)) {
-            return None;
-        }
-        let tail = bytes.get(bytes.len().checked_sub(TAIL)?..)?;
-        let mut guesses = LastRecordGuesses::new(self.delimiter);
-        guesses.take_all(tail);
-        guesses.agreed()
-    }
-
-    /// Whether the next byte is part of a quoted field.
-    pub fn is_open(&self) -> bool {
-        matches!(self.place, RecordState::Quoted)
-    }
-
-    /// Gives the size of the last record, where it began with a quote and has more than 65,536
-    /// bytes or 100 lines: a quote that is never closed takes the rest of a text.
-    pub fn suspicious(&self) -> Option<RecordSize> {
-        let is_long = self.size.bytes > MOST_BYTES || self.size.lines > MOST_LINES;
-        if self.is_quoted && is_long {
-            Some(self.size)
-        } else {
-            None
+    /// Gives how the text ends with the bytes that came.
+    fn ending(&self) -> Ending {
+        let is_long = self.is_quoted && self.size.lines > MOST_LINES;
+        Ending {
+            is_open: matches!(self.place, RecordState::Quoted),
+            long: is_long.then_some(self.size),
         }
     }
 }
 
-/// Follows the last record of a text from its begin or from somewhere after its byte order mark:
-/// from each place that the byte before may have left, in a record that may be long.
-#[derive(Drop)]
-pub struct LastRecordGuesses {
-    guesses: [LastRecord; 6],
+/// Gives how a text ends by its last `bytes`, where the same comes of whatever the byte before them
+/// was part of, and the last record begins among them. What makes a quoted field go on after its
+/// end is left out.
+fn ending_after_any(bytes: &[u8], delimiter: u8) -> Option<Ending> {
+    let mut found = None;
+    for place in &PLACES {
+        let mut last = LastRecord::after(*place, delimiter);
+        last.take_all(bytes);
+        if last.is_sound {
+            let ending = last.ending();
+            if !last.has_begun || found.unwrap_or(ending) != ending {
+                return None;
+            }
+            found = Some(ending);
+        }
+    }
+    found
 }
 
-impl LastRecordGuesses {
-    /// Begins in a text with `delimiter` between its fields.
-    pub fn new(delimiter: u8) -> LastRecordGuesses {
-        LastRecordGuesses {
-            guesses: [
-                LastRecord::within(delimiter, RecordState::Mark(0)),
-                LastRecord::within(delimiter, RecordState::Between),
-                LastRecord::within(delimiter, RecordState::FieldEnd),
-                LastRecord::within(delimiter, RecordState::Plain),
-                LastRecord::within(delimiter, RecordState::Quoted),
-                LastRecord::within(delimiter, RecordState::Quote),
-            ],
+/// Gives the last bytes of `bytes`: at most `most`.
+pub(crate) fn last_of(bytes: &[u8], most: usize) -> &[u8] {
+    bytes
+        .get(bytes.len().saturating_sub(most)..)
+        .unwrap_or(bytes)
+}
+
+/// Gives how a text ends by all of its `bytes`.
+fn ending_of_all(bytes: &[u8], delimiter: u8) -> Ending {
+    let mut last = LastRecord::after(RecordState::Mark(0), delimiter);
+    last.take_all(bytes);
+    last.ending()
+}
+
+impl Ending {
+    /// Says how a text ends by its last `bytes`, which are all of it if `are_all`. `delimiter`
+    /// stands between its fields; it is a quote, where no field is quoted. Where the bytes leave
+    /// open how the last record began, nothing is said.
+    pub fn of(bytes: &[u8], are_all: bool, delimiter: u8) -> Ending {
+        if delimiter == b'"' || !bytes.contains(&b'"') {
+            return PLAIN;
+        }
+        if are_all {
+            return ending_of_all(bytes, delimiter);
+        }
+        match ending_after_any(last_of(bytes, FEW_LAST), delimiter) {
+            Some(ending) => ending,
+            None => ending_after_any(bytes, delimiter).unwrap_or(PLAIN),
+        }
+    }
+}
+
+/// The last record of a text, where it is long.
+#[derive(Clone, Copy)]
+pub struct LongRecord {
+    /// The number of its text.
+    pub number: u64,
+    pub size: RecordSize,
+}
+
+/// How texts end.
+#[derive(Clone, Copy)]
+pub struct Endings {
+    /// The number of the first text at whose end a quote is open.
+    pub open: Option<u64>,
+    /// The first last record that is long.
+    pub long: Option<LongRecord>,
+}
+
+impl Endings {
+    /// Begins with no text.
+    pub fn new() -> Endings {
+        Endings {
+            open: None,
+            long: None,
         }
     }
 
-    /// Takes the next bytes.
-    pub fn add(&mut self, bytes: &[u8]) {
-        for guess in self.guesses.iter_mut() {
-            guess.add(bytes);
+    /// Adds how the text `number` ends.
+    pub fn with(self, number: u64, ending: Ending) -> Endings {
+        let open = ending.is_open.then_some(number);
+        let long = match ending.long {
+            Some(size) => Some(LongRecord { number, size }),
+            None => None,
+        };
+        Endings {
+            open: self.open.or(open),
+            long: self.long.or(long),
         }
-    }
-
-    /// Takes the next bytes, which are at most [`TAIL`], one by one.
-    fn take_all(&mut self, bytes: &[u8]) {
-        for guess in self.guesses.iter_mut() {
-            guess.take_all(bytes);
-        }
-    }
-
-    /// Gives the record that all guesses have come to, if it began since.
-    fn agreed(&self) -> Option<LastRecord> {
-        let first = self.guesses[0];
-        if first.size.bytes <= MOST_BYTES && self.guesses.iter().all(|guess| *guess == first) {
-            return Some(first);
-        }
-        None
-    }
-
-    /// Whether by one of the guesses the last record began with a quote and is long.
-    pub fn may_be_suspicious(&self) -> bool {
-        self.guesses
-            .iter()
-            .any(|guess| guess.suspicious().is_some())
-    }
-
-    /// Whether by one of the guesses a quote is open.
-    pub fn may_be_open(&self) -> bool {
-        self.guesses.iter().any(|guess| guess.is_open())
-    }
-
-    /// Whether by each of the guesses the last record began without a quote.
-    pub fn are_plain(&self) -> bool {
-        self.guesses.iter().all(|guess| !guess.is_quoted)
     }
 }

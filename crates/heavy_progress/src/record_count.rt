@@ -66,15 +66,6 @@ impl RecordState {
     pub(crate) fn is_in_record(self) -> bool {
         !matches!(self, RecordState::Mark(0) | RecordState::Between)
     }
-
-    /// Whether the next bytes need to be taken one by one: they are part of a quoted field, or
-    /// stand where a byte order mark may be.
-    pub(crate) fn is_open(self) -> bool {
-        matches!(
-            self,
-            RecordState::Quoted | RecordState::Quote | RecordState::Mark(_)
-        )
-    }
 }
 
 /// The number of records in the bytes that came, after a byte order mark. A line feed in quotes
