@@ -6,7 +6,7 @@ use Rattle.std.specs.Map.{keys_of}
 use Rattle.std.specs.Cmp.{IsTotalOrder}
 use Rattle.std.specs.Ordering.{ordering_reverse, ordering_then}
 use Rattle.std.proofs.lemmas.Cmp.{nat_cmp_total, then_total, back_total, on_total}
-use Rattle.std.proofs.lemmas.Bool.{cases_lt, cond_both, cond-false, false_from_ne_true}
+use Rattle.std.proofs.lemmas.Bool.{cases_lt, cond_both}
 use Rattle.std.proofs.lemmas.Bool.Decides.{nat_tests}
 use Rattle.std.proofs.lemmas.Map.Keys.{IsDistinct-IsPermutation, IsDistinct-from_sorted, apart_from_distinct, sorted_from_all_adjacent}
 use Rattle.std.proofs.lemmas.Map.Entries.{length-keys_of}
@@ -17,8 +17,8 @@ use Rattle.std.proofs.lemmas.List.Elements.{filter_more, filter_passes, All-filt
 use Rattle.std.proofs.lemmas.List.Kept.{IsStrictlySortedBy-filter}
 use Rattle.std.proofs.lemmas.Slice.Zip.{get_or-zip, length-zip}
 use Rattle.hh_stream.specs.Weights.{Bytes, Entry, key_cmp, same_key, weight_of, total_of}
-use Rattle.hh_summaries.specs.Counters.{Counters, SummaryView, IsCounters, tally, IsHonest}
-use Rattle.hh_summaries.specs.Report.{rank_cmp, ranked_in, by_rank, is_heavy, rows_above, heavy, weights_at, can_be_heavy, contenders, keys_above, has_counter, IsReport}
+use Rattle.hh_summaries.specs.Counters.{Counters, IsCounters, tally, IsHonest}
+use Rattle.hh_summaries.specs.Report.{rank_cmp, ranked_in, by_rank, is_heavy, rows_above, heavy, weights_at, has_counter, IsReport}
 use Rattle.hh_summaries.proofs.Weights.{Distinct, same_sym, key_total, rising-tally, weight_of-tally, flipped, number_from_in, positive_in, in_from_number, same_rising}
 
 -- ---- members
@@ -371,63 +371,3 @@ report_from_candidates c xs k p q h le =
     report_with_counters c xs p q h.counters
     ∙ filter_all (has_counter c) (heavy xs p q) (λ x i. grind
     (arith, nat_tests, heavy_has_counter c xs k p q h le x i))
-
--- what numbers above the weights leave out is not heavy
-filter_pruned : (bound : Bytes → ℕ) (xs : List Entry) (p q n : ℕ) → ((x : Bytes) → weight_of x xs ≤ bound x)
-    → (ks : List Bytes)
-    → filter (is_heavy p q n)
-    (zip (keys_above p q n ks (map bound ks)) (weights_at (keys_above p q n ks (map bound ks)) xs))
-    ≡ filter (is_heavy p q n) (zip ks (weights_at ks xs))
-filter_pruned bound xs p q n most [] = refl
-filter_pruned bound xs p q n most (k ∷ ks) =
-    let test : Entry → Bool = is_heavy p q n in
-    let rest = filter_pruned bound xs p q n most ks in
-    cond_both (test (k, bound k)) _ _ (λ (es : List Entry). filter test (zip (keys_of es) (weights_at (keys_of es) xs))
-    ≡ filter test (zip (k ∷ ks) (weights_at (k ∷ ks) xs)))
-    (λ _. ap (λ (es : List Entry). cond (test (k, weight_of k xs)) ((k, weight_of k xs) ∷ es) es) rest)
-    (λ low. rest ∙ sym (cond-false (test (k, weight_of k xs)) _ _ (false_from_ne_true _ (λ high.
-    grind (arith, nat_tests, low, high, mul-le-mul_left q (most k))))))
-
--- so the others are candidates enough
-pub report_from_pruned : (ks : List Bytes) (bound : Bytes → ℕ) (xs : List Entry) (p q : ℕ)
-    → ((x : Bytes) → weight_of x xs ≤ bound x)
-    → rows_above p q (total_of xs) (zip (keys_above p q (total_of xs) ks (map bound ks)) (weights_at
-    (keys_above p q (total_of xs) ks (map bound ks)) xs)) ≡ rows_above p q (total_of xs) (zip ks (weights_at ks xs))
-report_from_pruned ks bound xs p q most = ap by_rank (filter_pruned bound xs p q (total_of xs) most ks)
-
--- what p/q of n bounds from below, near a counter
-can_exceed : (k p q n w t c : ℕ) → p * n < q * w → (k + 1) * w + t ≤ n + (k + 1) * c
-    → p * n * (k + 1) + q * t < q * (n + (k + 1) * c)
-can_exceed k p q n w t c more near =
-    let most : q * ((k + 1) * w + t) ≤ q * (n + (k + 1) * c) = mul-le-mul_left q near in
-    let times : suc (p * n) * (k + 1) ≤ q * w * (k + 1) = mul-le-mul_right (k + 1) more in
-    grind (arith, most, times)
-
--- a heavy key of an honest summary is a contender
-contends : (s : SummaryView) (xs : List Entry) (p q : ℕ) → IsHonest s.counters s.total xs s.k → q ≤ p * (s.k + 1)
-    → (e : Entry) → Contains (heavy xs p q) e → has_counter (contenders p q s) e ≡ true
-contends s xs p q h le e i =
-    let n = h.counted in
-    let c = weight_of e.0 s.counters in
-    let honest : IsHonest s.counters (total_of xs) xs s.k = subst (λ m. IsHonest s.counters m xs s.k) n h in
-    let some = heavy_has_counter s.counters xs s.k p q honest le e i in
-    let heavy_e = in_heavy xs p q e.0 e.1 i in
-    let near : (s.k + 1) * e.1 + total_of s.counters ≤ s.total + (s.k + 1) * c =
-    subst (λ w. (s.k + 1) * w + total_of s.counters ≤ s.total + (s.k + 1) * c) (sym heavy_e.0) (h.near e.0) in
-    let over =
-    can_exceed s.k p q s.total e.1 (total_of s.counters) c (subst (λ m. p * m < q * e.1) (sym n) heavy_e.1) near in
-    let there = filter_in (can_be_heavy p q s) (e.0, c) s.counters
-    (in_from_number e.0 s.counters h.counters.rising some) (grind (arith, nat_tests, over)) in
-    let rising = rising-filter (can_be_heavy p q s) s.counters h.counters.rising in
-    let same : weight_of e.0 (contenders p q s) ≡ c = number_from_in (e.0, c) (contenders p q s) rising there in
-    grind (arith, nat_tests, same, some)
-
--- so the contenders are candidates enough
-pub report_from_contenders : (s : SummaryView) (xs : List Entry) (p q : ℕ) → IsHonest s.counters s.total xs s.k
-    → q ≤ p * (s.k + 1)
-    → rows_above p q (total_of xs) (zip (keys_of (contenders p q s)) (weights_at (keys_of (contenders p q s)) xs))
-    ≡ heavy xs p q
-report_from_contenders s xs p q h le =
-    let some = contenders p q s in
-    report_with_counters some xs p q (counters-filter (can_be_heavy p q s) s.counters h.counters)
-    ∙ filter_all (has_counter some) (heavy xs p q) (contends s xs p q h le)

@@ -1,11 +1,10 @@
 -- The heavy keys, in the order of the report.
-use Rattle.std.specs.Prelude.{◌≡◌, ℕ, ◌+◌, ◌*◌, ◌<◌, ◌≤◌, Bool, ◌&&◌, cond, nat_lt, nat_le, List, [], ◌∷◌, map, filter, fold, zip, Contains, ◌↔◌}
+use Rattle.std.specs.Prelude.{◌≡◌, ℕ, ◌+◌, ◌*◌, ◌<◌, ◌≤◌, Bool, ◌&&◌, cond, nat_lt, nat_le, List, [], ◌∷◌, map, filter, fold, Contains, ◌↔◌}
 use Rattle.std.specs.List.Sorted.{IsStrictlySortedBy}
-use Rattle.std.specs.Map.{keys_of}
 use Rattle.std.specs.declared.cmp.Ordering.{Ordering}
 use Rattle.std.specs.Ordering.{nat_cmp, ordering_then, is_lt}
 use Rattle.hh_stream.specs.Weights.{Bytes, Entry, key_cmp, weight_of, total_of}
-use Rattle.hh_summaries.specs.Counters.{Counters, SummaryView, tally}
+use Rattle.hh_summaries.specs.Counters.{tally}
 
 -- by falling weight, then by rising key
 abbrev pub rank_cmp : Entry → Entry → Ordering
@@ -53,20 +52,7 @@ counts_with [] xs ns = ns
 counts_with (x ∷ ks) xs [] = []
 counts_with (x ∷ ks) xs (n ∷ ns) = (n + weight_of x xs) ∷ counts_with ks xs ns
 
--- whether a key with this counter can have more than p/q of the total: k + 1 times what it weighs is at
--- most k + 1 times its counter and what the total has above the counters' sum
-abbrev pub can_be_heavy : ℕ → ℕ → SummaryView → Entry → Bool
-can_be_heavy p q s e =
-    nat_lt (p * s.total * (s.k + 1) + q * total_of s.counters) (q * (s.total + (s.k + 1) * e.1))
-
--- the counters of those keys
-abbrev pub contenders : ℕ → ℕ → SummaryView → Counters
-contenders p q s = filter (can_be_heavy p q s) s.counters
-
--- those of the keys of which the number is more than p/q of n
-abbrev pub keys_above : ℕ → ℕ → ℕ → List Bytes → List ℕ → List Bytes
-keys_above p q n ks ns = keys_of (filter (is_heavy p q n) (zip ks ns))
-
+-- whether the entry's key has a counter in c
 abbrev pub has_counter : List Entry → Entry → Bool
 has_counter c e = nat_lt 0 (weight_of e.0 c)
 
