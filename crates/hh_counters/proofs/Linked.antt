@@ -9,6 +9,7 @@ use Rattle.std.specs.BTreeMap.{is_at}
 use Rattle.std.specs.BTreeSet.{Updates, insert_key}
 use Rattle.std.specs.Cmp.{eq_by_cmp_equiv, tied_then}
 use Rattle.std.specs.Option.{option_to_list}
+use Rattle.std.proofs.Math.Bool.{and-true, and-false}
 use Rattle.std.proofs.lemmas.Bool.{cases_Bool, cond_both, false_from_ne_true}
 use Rattle.std.proofs.lemmas.Bool.Decides.{nat_tests}
 use Rattle.std.proofs.lemmas.List.{get_or-map, length_push, same_from_push}
@@ -152,17 +153,10 @@ pub marks : (b d : Buckets) (n : ℕ) (x : Bytes) (v : Bool) → Updates by_coun
 marks b d n x v u c q =
     u.0 (c, q) ∙ ap (λ t. cond t v (is_in b c q)) (sym (tied_then (nat_cmp n c) (key_cmp x q)))
 
--- a test and true is the test
-and_true : (b : Bool) → (b && true) ≡ b
-and_true b = grind arith
-
-and_false : (b : Bool) → (b && false) ≡ false
-and_false b = grind arith
-
 -- the pairs of other keys stay
 pub others_stay : (b d : Buckets) (n : ℕ) (x : Bytes) (v : Bool) → Marks b d n x v → (c : ℕ) (q : Bytes)
     → same_key x q ≡ false → is_in d c q ≡ is_in b c q
-others_stay b d n x v m c q other = m c q ∙ simp (other, and_false) refl
+others_stay b d n x v m c q other = m c q ∙ simp (other, and-false) refl
 
 -- where each key is, once x is in the bucket of v
 abbrev pub sent : (Bytes → ℕ) → Bytes → ℕ → Bytes → ℕ
@@ -198,7 +192,7 @@ put_in f es fs b d x w p old none distinct u m =
       below = λ q. rw (weight_set es fs x (Some w) old.distinct distinct u q)
           (cond_below (same_key x q) w (f q) (weight_of q (tally es)) (old.below q));
       agree = agree_sent f b d x w old.agree (others_stay b d w x true m)
-          (λ c. m c x ∙ simp (same_self x, and_true, old.agree c x, free) (grind (arith, nat_tests, p)));
+          (λ c. m c x ∙ simp (same_self x, and-true, old.agree c x, free) (grind (arith, nat_tests, p)));
     }
 
 -- a key leaves both
@@ -210,7 +204,7 @@ taken_out f es fs b d y n old at distinct u m = record {
   below = λ q. rw (weight_set es fs y None old.distinct distinct u q)
       (cond_below (same_key y q) 0 (f q) (weight_of q (tally es)) (old.below q));
   agree = agree_sent f b d y 0 old.agree (others_stay b d n y false m)
-      (λ c. m c y ∙ simp (same_self y, and_true, old.agree c y, at) (grind (arith, nat_tests)));
+      (λ c. m c y ∙ simp (same_self y, and-true, old.agree c y, at) (grind (arith, nat_tests)));
 }
 
 -- a key moves up from the bucket of n to that of its counter
@@ -227,7 +221,7 @@ moved_up f es b m d n v x old at less counter put taken = record {
       (λ _. old.below q);
   agree = agree_sent f b d x v old.agree
       (λ c q other. others_stay m d n x false taken c q other ∙ others_stay b m v x true put c q other)
-      (λ c. taken c x ∙ simp (same_self x, and_true, put c x, old.agree c x, at) (grind (arith, nat_tests, less)));
+      (λ c. taken c x ∙ simp (same_self x, and-true, put c x, old.agree c x, at) (grind (arith, nat_tests, less)));
 }
 
 -- ---- the first key of the first bucket

@@ -1,5 +1,5 @@
 -- The level, and what a cut takes.
-use Rattle.std.proofs.Common.{◌≡◌, ℕ, suc, Option, Some, None, ◌+◌, ◌-◌, ◌*◌, ◌<◌, ◌≤◌, ◌⊎◌, inl, inr, ⊎_elim, Bool, true, false, cond, min, max, List, [], ◌∷◌, ◌++◌, length, get_or, map, Less, refl, sym, ap, ◌∙◌, subst, mul-one, mul-zero, mul-add, arith, filter, fold, count_by, nat_lt, nat_le, IsPermutation}
+use Rattle.std.proofs.Common.{◌≡◌, ℕ, suc, Option, Some, None, ◌+◌, ◌-◌, ◌*◌, ◌<◌, ◌≤◌, ◌⊎◌, inl, inr, ⊎_elim, Bool, true, false, cond, min, max, List, [], ◌∷◌, ◌++◌, length, get_or, map, Less, refl, sym, ap, ◌∙◌, subst, mul-one, mul-zero, mul-add, arith, filter, fold, count_by, nat_lt, nat_le, slice_get, take, IsPermutation}
 use Rattle.std.specs.Prelude.{unwrap_or}
 use Rattle.std.specs.List.{AllByRecursion, IsDistinct}
 use Rattle.std.specs.List.Sorted.{IsStrictlySortedBy, IsSplitAround}
@@ -7,6 +7,9 @@ use Rattle.std.specs.Ordering.{nat_cmp}
 use Rattle.std.specs.Map.{keys_of, lookup, values_of}
 use Rattle.std.specs.Option.{option_map}
 use Rattle.std.specs.Cmp.{eq_by_cmp_equiv}
+use Rattle.std.proofs.lemmas.Option.{slice_get_within, get_or_from_slice_get}
+use Rattle.std.proofs.lemmas.List.{map-append, take_more}
+use Rattle.std.proofs.lemmas.List.Elements.{filter-append}
 use Rattle.std.proofs.lemmas.List.Sums.{sum_by-cons, sum_by-append, count_by-le-length}
 use Rattle.std.proofs.lemmas.List.Sorted.{sum_by-IsPermutation}
 use Rattle.std.proofs.lemmas.Map.Keys.{ge_from_not_lt}
@@ -268,6 +271,28 @@ level_one_more c k h =
     let above = level_above c k (least_counter c) (least_counter-all c) (omega arith) in
     let below = (is_level c k).least (least_counter c) (omega (arith, over_least c (omega arith), h)) in
     omega (arith, above, below)
+
+-- ---- entry by entry
+-- the entry at a place
+pub entry_at : (es : List Entry) (i : ℕ) (e : Entry) → Some e ≡ slice_get es i
+    → take (i + 1) es ≡ take i es ++ e ∷ []
+entry_at es i e is =
+    let l : i < length es = slice_get_within es i e (sym is) in
+    take_more es i e l ∙ ap (λ (d : Entry). take i es ++ d ∷ []) (get_or_from_slice_get es i e e (sym is))
+
+-- lowered one after the other
+lower-append : (t : ℕ) (es fs : List Entry) → lower t (es ++ fs) ≡ lower t es ++ lower t fs
+unfolding lower
+lower-append t es fs = ap (map (less_by t)) (filter-append (exceeds t) es fs) ∙ map-append (less_by t) _ _
+
+-- one entry more that is lowered, or dropped
+pub lowered_more : (t : ℕ) (es : List Entry) (i : ℕ) (e : Entry) → Some e ≡ slice_get es i
+    → lower t (take (i + 1) es) ≡ lower t (take i es) ++ cond (nat_lt t e.1) ((e.0, e.1 - t) ∷ []) []
+lowered_more t es i e is =
+    ap (lower t) (entry_at es i e is)
+    ∙ lower-append t (take i es) (e ∷ [])
+    ∙ ap (λ (ds : List Entry). lower t (take i es) ++ ds)
+    (lower-cons t e [] ∙ ap (λ (ds : List Entry). cond (nat_lt t e.1) ((e.0, e.1 - t) ∷ ds) ds) (lower-nil t))
 
 -- ---- of distinct keys in any order
 -- lowered keys stay apart

@@ -8,18 +8,19 @@ use Rattle.std.specs.Ordering.{ordering_reverse, ordering_then}
 use Rattle.std.proofs.lemmas.Cmp.{nat_cmp_total, then_total, back_total, on_total}
 use Rattle.std.proofs.lemmas.Bool.{cases_lt, cond_both}
 use Rattle.std.proofs.lemmas.Bool.Decides.{nat_tests}
-use Rattle.std.proofs.lemmas.Map.Keys.{IsDistinct-IsPermutation, IsDistinct-from_sorted, apart_from_distinct, sorted_from_all_adjacent}
+use Rattle.std.proofs.lemmas.Map.Keys.{Less-from_sorted, IsDistinct-IsPermutation, IsDistinct-from_sorted, apart_from_distinct, sorted_from_all_adjacent}
 use Rattle.std.proofs.lemmas.Map.Entries.{length-keys_of}
 use Rattle.std.proofs.lemmas.Map.Made.{keys_of-zip}
 use Rattle.std.proofs.lemmas.List.{get_or-map, append-nil, length-map}
-use Rattle.std.proofs.lemmas.List.Sorted.{IsPermutation-refl, IsPermutation-trans, IsPermutation-cons, IsPermutation-middle, IsPermutation-append_left, IsPermutation-filter_both, IsPermutation-map, IsPermutation-sym, All-permutation, Contains-permutation, length_permutation}
+use Rattle.std.proofs.lemmas.List.Sorted.{IsPermutation-refl, IsPermutation-trans, IsPermutation-cons, IsPermutation-middle, IsPermutation-append_left, IsPermutation-filter_both, IsPermutation-map, IsPermutation-sym, All-permutation, Contains-permutation, length_permutation, sum_by-IsPermutation}
 use Rattle.std.proofs.lemmas.List.Elements.{filter_more, filter_passes, All-filter, All-map, All-weaker, All-contains, All-contains_itself, All-from_recursion, recursion_from_All, Contains-append_cases, Contains-get_or}
 use Rattle.std.proofs.lemmas.List.Kept.{IsStrictlySortedBy-filter}
 use Rattle.std.proofs.lemmas.Slice.Zip.{get_or-zip, length-zip}
-use Rattle.hh_stream.specs.Weights.{Bytes, Entry, key_cmp, same_key, weight_of, total_of}
+use Rattle.hh_stream.specs.Weights.{Bytes, Entry, key_cmp, same_key, at_key, weight_of, total_of}
 use Rattle.hh_summaries.specs.Counters.{Counters, IsCounters, tally, IsHonest}
 use Rattle.hh_summaries.specs.Report.{rank_cmp, ranked_in, by_rank, is_heavy, rows_above, heavy, weights_at, has_counter, IsReport}
-use Rattle.hh_summaries.proofs.Weights.{Distinct, same_sym, key_total, rising-tally, weight_of-tally, flipped, number_from_in, positive_in, in_from_number, same_rising}
+use Rattle.hh_summaries.proofs.Weights.{Distinct, same_sym, key_total, rising-tally, weight_of-tally, flipped, number_from_in, positive_in, in_from_number, same_counters, same_rising}
+use Rattle.hh_summaries.proofs.Places.{counters_from_places}
 
 -- ---- members
 -- what passes a test in a list is in it and passes
@@ -243,6 +244,18 @@ rising_from_sort {R} o ties es ys h perm sorted =
     let first = get_or-map (λ (e : Entry). e.0) ys k d [] (omega arith) in
     let second = get_or-map (λ (e : Entry). e.0) ys (k + 1) d [] l in
     cc (ap is_eq (ties a b e), ap₂ same_key first second, differ)))
+
+-- distinct entries that are sorted by key are the counters that have their numbers
+pub counters_from_sort : (es ys : List Entry) (c : Counters) → Distinct es → AllByRecursion (λ (e : Entry). 0 < e.1) es
+    → IsPermutation es ys → IsSortedBy (λ x y. is_lt (key_cmp x.0 y.0)) ys → IsCounters c
+    → ((q : Bytes) → weight_of q es ≡ weight_of q c) → ys ≡ c
+counters_from_sort es ys c apart some perm sorted counters same =
+    let positive : Entry → Type 0 = λ e. 0 < e.1 in
+    same_counters _ _
+    (counters_from_places ys (All-permutation positive es ys perm (All-from_recursion positive es some))
+    (λ k d l. Less-from_sorted (λ (a b : Entry). key_cmp a.0 b.0) ys k (k + 1) d (rising_from_sort
+    (on_total (λ (e : Entry). e.0) key_total) (λ a b e. e) es ys apart perm sorted) (omega arith) l))
+    counters (λ q. sum_by-IsPermutation (at_key q) es ys perm ∙ same q)
 
 -- counters sorted in the order of the report are its list
 pub ranked_from_sort : (es ys : List Entry) → IsStrictlySortedBy key_cmp (keys_of es) → IsPermutation es ys

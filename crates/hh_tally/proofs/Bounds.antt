@@ -3,6 +3,7 @@ use Rattle.std.proofs.Common.{◌≡◌, ℕ, ◌+◌, ◌*◌, ◌/◌, ◌<◌
 use Rattle.std.specs.Prelude.{◌||◌, ◌&&◌, ◌==◌, max}
 use Rattle.std.specs.List.{AllByRecursion, IsDistinct}
 use Rattle.std.specs.Map.{keys_of}
+use Rattle.std.proofs.Math.Bool.{and-false}
 use Rattle.std.proofs.lemmas.Bool.{cond_both}
 use Rattle.std.proofs.lemmas.Bool.Decides.{nat_tests}
 use Rattle.std.proofs.lemmas.List.Sums.{sum_by-cons}
@@ -191,9 +192,6 @@ bytes-lower t (e ∷ es) = by_lower (λ d. bytes_of (keys_of d) ≤ bytes_of (ke
     (λ l. omega (arith, sum_by-cons length e.0 (keys_of (lower t es)), sum_by-cons length e.0 (keys_of es), bytes-lower t es))
     (λ l. omega (arith, sum_by-cons length e.0 (keys_of es), bytes-lower t es))
 
-and_false : (b : Bool) → (b && false) ≡ false
-and_false b = grind arith
-
 -- once settled there are not too many
 pub settled_within : (room : Room) (es : List Entry) → room.few ≤ room.keys → is_over room (keys_of (left_of room es)) ≡ false
 unfolding left_of
@@ -229,4 +227,4 @@ settled_within room es le = cond_both (is_over room (keys_of es)) _ _
         let many : room.keys < length (keys_of es) = grind (arith, nat_tests, h, o) in
         let b : bytes_of (keys_of es) ≤ room.bytes = grind (arith, nat_tests, h, many, le) in
         let d : nat_lt room.bytes (bytes_of fs) ≡ false = grind (arith, nat_tests, b, bytes) in
-        simp (a, d, and_false) refl
+        simp (a, d, and-false) refl

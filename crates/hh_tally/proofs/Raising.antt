@@ -1,19 +1,18 @@
 -- What an item adds to entries with distinct keys, and what lowering takes from them.
-use Rattle.std.proofs.Common.{◌≡◌, ℕ, ◌+◌, ◌-◌, ◌<◌, ◌≤◌, Bool, true, false, cond, List, [], ◌∷◌, ◌++◌, length, Some, None, refl, sym, ap, ◌∙◌, subst, arith, filter, fold, map, nat_lt, take, drop, slice_get}
+use Rattle.std.proofs.Common.{◌≡◌, ℕ, ◌+◌, ◌-◌, ◌<◌, ◌≤◌, Bool, true, false, cond, List, [], ◌∷◌, ◌++◌, length, Some, None, refl, sym, ap, ◌∙◌, subst, arith, filter, fold, nat_lt, take, drop, slice_get}
 use Rattle.std.specs.Prelude.{unwrap_or}
 use Rattle.std.specs.List.{AllByRecursion, IsDistinct}
 use Rattle.std.specs.Map.{keys_of, lookup}
 use Rattle.std.proofs.lemmas.Bool.{cond_both}
 use Rattle.std.specs.Map.Calls.{RetainsPairs}
-use Rattle.std.proofs.lemmas.Option.{slice_get_within, get_or_from_slice_get}
-use Rattle.std.proofs.lemmas.List.{map-append, take_more, take-append-drop}
+use Rattle.std.proofs.lemmas.List.{map-append, take-append-drop}
 use Rattle.std.proofs.lemmas.List.Elements.{filter-append}
 use Rattle.std.proofs.lemmas.List.Sums.{sum_by-append, fold-append}
 use Rattle.indexmap.specs.IndexMap.{insert_entry}
 use Rattle.hh_stream.specs.Weights.{Bytes, Entry, same_key, at_key, weight_of, total_of}
-use Rattle.hh_summaries.specs.Counters.{exceeds, less_by, lower}
+use Rattle.hh_summaries.specs.Counters.{lower}
 use Rattle.hh_summaries.proofs.Weights.{Distinct, weight_of-cons, total_of-cons, total_of-append, same_exact, same_sym, at_both}
-use Rattle.hh_summaries.proofs.Level.{lower-nil, lower-cons}
+use Rattle.hh_summaries.proofs.Level.{entry_at, lower-nil, lower-cons}
 use Rattle.hh_tally.specs.Tallies.{add_in, bytes_of}
 
 -- ---- an entry added
@@ -119,13 +118,6 @@ module _ {F : Type 0} (T : F → Bytes → ℕ → Bool → ℕ → F → Type 0
       h.6 ∙ (λ j. cond (s.0 j) ((e.0, s.1 j) ∷ rest j) (rest j)) ∙ sym (lower-cons t e es)
 
 -- ---- entry by entry
--- the entry at a place
-pub entry_at : (es : List Entry) (i : ℕ) (e : Entry) → Some e ≡ slice_get es i
-    → take (i + 1) es ≡ take i es ++ e ∷ []
-entry_at es i e is =
-    let l : i < length es = slice_get_within es i e (sym is) in
-    take_more es i e l ∙ ap (λ (d : Entry). take i es ++ d ∷ []) (get_or_from_slice_get es i e e (sym is))
-
 -- the bytes of one key more
 pub bytes_more : (es : List Entry) (i : ℕ) (e : Entry) → Some e ≡ slice_get es i
     → bytes_of (keys_of (take (i + 1) es)) ≡ bytes_of (keys_of (take i es)) + length e.0
@@ -138,20 +130,6 @@ bytes_more es i e is =
 pub passes_more : (p : Entry → Bool) (es : List Entry) (i : ℕ) (e : Entry) → Some e ≡ slice_get es i
     → filter p (take (i + 1) es) ≡ filter p (take i es) ++ cond (p e) (e ∷ []) []
 passes_more p es i e is = ap (filter p) (entry_at es i e is) ∙ filter-append p (take i es) (e ∷ [])
-
--- lowered one after the other
-lower-append : (t : ℕ) (es fs : List Entry) → lower t (es ++ fs) ≡ lower t es ++ lower t fs
-unfolding lower
-lower-append t es fs = ap (map (less_by t)) (filter-append (exceeds t) es fs) ∙ map-append (less_by t) _ _
-
--- one entry more that is lowered, or dropped
-pub lowered_more : (t : ℕ) (es : List Entry) (i : ℕ) (e : Entry) → Some e ≡ slice_get es i
-    → lower t (take (i + 1) es) ≡ lower t (take i es) ++ cond (nat_lt t e.1) ((e.0, e.1 - t) ∷ []) []
-lowered_more t es i e is =
-    ap (lower t) (entry_at es i e is)
-    ∙ lower-append t (take i es) (e ∷ [])
-    ∙ ap (λ (ds : List Entry). lower t (take i es) ++ ds)
-    (lower-cons t e [] ∙ ap (λ (ds : List Entry). cond (nat_lt t e.1) ((e.0, e.1 - t) ∷ ds) ds) (lower-nil t))
 
 -- one entry more is added
 pub added_more : (fs es : List Entry) (i : ℕ) (e : Entry) → Some e ≡ slice_get es i

@@ -1,21 +1,17 @@
 -- The counters of a tally above a number, sorted by key.
-use Rattle.std.proofs.Common.{◌≡◌, ℕ, ◌+◌, ◌<◌, Option, Some, None, cond, List, is_lt, refl, sym, ap, ◌∙◌, arith, filter, nat_lt, IsPermutation}
+use Rattle.std.proofs.Common.{◌≡◌, ℕ, ◌<◌, Option, Some, None, cond, List, is_lt, refl, sym, ap, ◌∙◌, filter, nat_lt, IsPermutation}
 use Rattle.std.specs.Prelude.{unwrap_or, IsSortedBy}
 use Rattle.std.specs.List.{AllByRecursion}
 use Rattle.std.specs.Map.{keys_of, lookup}
 use Rattle.std.specs.Cmp.{eq_by_cmp_equiv}
 use Rattle.std.proofs.lemmas.Bool.{cond_both}
-use Rattle.std.proofs.lemmas.Cmp.{on_total}
-use Rattle.std.proofs.lemmas.List.Sorted.{All-permutation, sum_by-IsPermutation}
-use Rattle.std.proofs.lemmas.List.Elements.{All-from_recursion}
 use Rattle.std.proofs.lemmas.Map.Made.{IsDistinct-keys_filter}
-use Rattle.std.proofs.lemmas.Map.Keys.{Less-from_sorted, IsDistinct-from_sorted}
+use Rattle.std.proofs.lemmas.Map.Keys.{IsDistinct-from_sorted}
 use Rattle.std.proofs.lemmas.Map.Entries.{lookup-filter-values, option_filter}
-use Rattle.hh_stream.specs.Weights.{Bytes, Entry, key_cmp, same_key, at_key, weight_of}
+use Rattle.hh_stream.specs.Weights.{Bytes, Entry, key_cmp, same_key, weight_of}
 use Rattle.hh_summaries.specs.Counters.{exceeds, tally}
-use Rattle.hh_summaries.proofs.Weights.{Distinct, weight_of-lookup, key_total, weight_of-tally, rising-tally, counters-tally, same_counters}
-use Rattle.hh_summaries.proofs.Reports.{all-filter, counters-filter, rising_from_sort}
-use Rattle.hh_summaries.proofs.Places.{counters_from_places}
+use Rattle.hh_summaries.proofs.Weights.{Distinct, weight_of-lookup, key_total, weight_of-tally, rising-tally, counters-tally}
+use Rattle.hh_summaries.proofs.Reports.{all-filter, counters-filter, counters_from_sort}
 
 -- a number where it is above t, and else 0
 abbrev kept : ℕ → ℕ → ℕ
@@ -39,16 +35,8 @@ pub above_sorted : (t : ℕ) (es ys : List Entry) → Distinct es → AllByRecur
     → IsPermutation (filter (exceeds t) es) ys → IsSortedBy (λ x y. is_lt (key_cmp x.0 y.0)) ys
     → ys ≡ filter (exceeds t) (tally es)
 above_sorted t es ys h some perm sorted =
-    let positive : Entry → Type 0 = λ e. 0 < e.1 in
-    let left = filter (exceeds t) es in
-    let rises = rising-tally es in
-    same_counters _ _
-    (counters_from_places ys
-    (All-permutation positive left ys perm (All-from_recursion positive left (all-filter positive (exceeds t) es some)))
-    (λ k d l. Less-from_sorted (λ (a b : Entry). key_cmp a.0 b.0) ys k (k + 1) d (rising_from_sort
-    (on_total (λ (e : Entry). e.0) key_total) (λ a b e. e) left ys (IsDistinct-keys_filter same_key (exceeds t) es h)
-    perm sorted) (omega arith) l))
+    counters_from_sort (filter (exceeds t) es) ys _ (IsDistinct-keys_filter same_key (exceeds t) es h)
+    (all-filter _ (exceeds t) es some) perm sorted
     (counters-filter (exceeds t) (tally es) (counters-tally es some))
-    (λ q. sum_by-IsPermutation (at_key q) left ys perm ∙ weight_of-above t q es h
-    ∙ ap (kept t) (sym (weight_of-tally q es))
-    ∙ sym (weight_of-above t q (tally es) (IsDistinct-from_sorted key_cmp (keys_of (tally es)) rises)))
+    (λ q. weight_of-above t q es h ∙ ap (kept t) (sym (weight_of-tally q es))
+    ∙ sym (weight_of-above t q (tally es) (IsDistinct-from_sorted key_cmp (keys_of (tally es)) (rising-tally es))))

@@ -1,5 +1,4 @@
-use Rattle.std.proofs.Common.{◌≡◌, ◌-◌, ◌<◌, [], ◌∷◌, ◌++◌, List, length, take_all, get_or, Some, true≢false, sym, ap, ap₂, ◌∙◌, arith, slice_get, rules}
-use Rattle.std.proofs.lemmas.Option.{get_or_from_slice_get}
+use Rattle.std.proofs.Common.{◌-◌, [], ◌∷◌, ◌++◌, List, take_all, true≢false, sym, ap, ap₂, ◌∙◌, arith, rules}
 use Rattle.hh_stream.specs.Weights.{Bytes, Entry}
 use Rattle.hh_summaries.specs.Counters.{Counters, lower}
 use Rattle.hh_summaries.proofs.Level.{lower-nil}
@@ -15,20 +14,17 @@ loop-i-preserved c =
     let es = c.args.index.now.entries in
     let i = c.loop-i.i in
     let t = c.args.least in
-    let l : i < length es = omega (arith, c.loop-i-test.true, c.len-i-end.ensures.len) in
-    let at : (e : Entry) → Some e ≡ slice_get es i → e ≡ get_or es i e =
-    λ e is. sym (get_or_from_slice_get es i e e (sym is)) in
     elim c.match-get_index.branch [
       | in-Some+then-counter-least+in_ok-push_copy w ↦
           let e : Entry = (w.in-Some.key.now, w.in-Some.counter.now) in
           ap (λ v. v.items) w.entries-is ∙ w.in_ok-push_copy.ensures.pushed
           ∙ ap₂ (λ (d : Counters) (k : Bytes). d ++ (k, e.1 - t) ∷ []) c.loop-i.invariant w.key.ensures
-          ∙ sym (lower_above t es i e l (at e w.in-Some.ensures.entry) w.if-counter-least.true)
+          ∙ sym (lower_above t es i e w.in-Some.ensures.entry w.if-counter-least.true)
       | in-Some+else-counter-least w ↦
           let e : Entry = (w.in-Some.key.now, w.in-Some.counter.now) in
           ap (λ v. v.items) w.entries-is ∙ c.loop-i.invariant
-          ∙ sym (lower_below t es i e l (at e w.in-Some.ensures.entry) w.if-counter-least.false)
-      | in_default w ↦ absurd (true≢false (sym (w.in_default.ensures.found.1 l)))
+          ∙ sym (lower_below t es i e w.in-Some.ensures.entry w.if-counter-least.false)
+      | in_default w ↦ absurd (true≢false (sym (w.in_default.ensures.found.1 (omega (arith, c.loop-i-test.true, c.len-i-end.ensures.len)))))
     ]
 
 pub returns-in_err-push_copy : goal.returns-in_err-push_copy

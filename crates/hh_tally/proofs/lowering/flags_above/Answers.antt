@@ -6,7 +6,7 @@ use Rattle.std.proofs.lemmas.Option.{slice_get_within}
 use Rattle.hh_stream.specs.Weights.{Entry}
 use Rattle.hh_summaries.specs.Counters.{lower}
 use Rattle.hh_summaries.proofs.Level.{lower-nil}
-use Rattle.hh_tally.proofs.Raising.{lowered_more}
+use Rattle.hh_summaries.proofs.Level.{lowered_more}
 use Rattle.hh_tally.proofs.Sure.{flag_of_entry}
 use Rattle.hh_tally.proofs.lowering.flags_above.Goals as goal
 use Rattle.hh_tally.proofs.lowering.flags_above.Goals.{in-Some+then-counter-t+in_ok-push, in-Some+else-counter-t, in_default}

@@ -5,7 +5,7 @@ use Rattle.std.proofs.lemmas.List.{length-append, map-append}
 use Rattle.std.proofs.lemmas.Option.{slice_get_within}
 use Rattle.hh_stream.specs.Weights.{Entry}
 use Rattle.hh_tally.specs.Tallies.{and_sure, is_sure}
-use Rattle.hh_tally.proofs.Raising.{entry_at}
+use Rattle.hh_summaries.proofs.Level.{entry_at}
 use Rattle.hh_tally.proofs.Sure.{flag_of_entry}
 use Rattle.hh_tally.proofs.tally.sure_of_both.Goals as goal
 use Rattle.hh_tally.proofs.tally.sure_of_both.Goals.{in-Some+in_ok-push, in_default}
