@@ -470,8 +470,7 @@ class CommandLine(programs.Checks):
         """Options of a report that its rows don't show. Without an option of a plan the workers start once where there are at
         most 4,096 keys of 4 MiB, or no other key can be heavy than those that came before that; and once more where one came late.
         With such an option, each of two passes starts them; a worker's table takes 8 bytes for each cell, and the shared words are
-        those cells and a claim for each piece. By the seed keys meet in other cells, and so more or fewer of them are counted in
-        the second pass."""
+        those cells and a claim for each piece. The second pass counts the same keys whatever the table, and so whatever the seed."""
         library = programs.preloaded("watch.c", self.room)
         for words, count, late, threads in [
             ([], 4, False, 4), (["--workers", "6"], 4, False, 6), (["--k", "65535"], 4, False, 4), ([], 4095, True, 4), ([], 4097, False, 4),
@@ -496,11 +495,8 @@ class CommandLine(programs.Checks):
             self.check(f"report {' '.join(words)}", found == (2 * workers, True, True), told)
         many = b"".join(b"k%d,%d\n" % (number, 1 + number % 7) for number in range(5000))
         options = ["report", "--k", "3000", "--workers", "1", "--width", "4096", "--depth", "1"]
-        seeds = ["0", "7", str(2**64 - 1)]
-        plain, *told = [watched(self.program, library, options + words, many) for words in ([], *(["--seed", it] for it in seeds))]
-        self.check("the default seed of a report is 0", plain == told[0] and plain != [], (plain, told[0]))
-        differ = len({tuple(it) for it in told}) == len(seeds)
-        self.check("each seed of a report has a table of its own", differ, told)
+        plain, *told = [watched(self.program, library, options + words, many) for words in ([], ["--seed", "7"], ["--seed", str(2**64 - 1)])]
+        self.check("the keys that a plan's report counts are the same by each seed", plain != [] and told == [plain] * 2, (plain, told))
 
     def test_file_workers(self) -> None:
         """How many threads a command starts that reads records once: the workers where all of them are in files that are not
