@@ -28,6 +28,10 @@ LONG_TEXTS = {
     "NULs": (3, [], b"%s", b"\0"),
     "quotes": (3, [], b"%s", b'"'),
     "a quote that stays open": (3, [], b'a,3\n"%s', b"b,4\n"),
+    "fields": (3, [], b"%s\n", b","),
+    "fields that no column names": (0, COLUMNS, b"a,3,%s\nb,4\n", b","),
+    "quoted fields that none names": (0, COLUMNS, b'a,3,"x"%s\nb,4\n', b',""'),
+    "records that end in CR": (3, [], b"%sb,x\n", b"a,1\r"),
 }
 
 

@@ -25,8 +25,7 @@ use Rattle.hh_commands.specs.Summarise.{word_of}
 use Rattle.hh_commands.specs.declared.commands.summarise.Method.{Method}
 use Rattle.hh_commands.specs.declared.compared.Bounds.TheVariants as bounds
 use Rattle.hh_commands.specs.declared.compared.Outside.{Outside}
-use Rattle.hh_output.specs.declared.output.Output.{Output}
-use Rattle.hh_reports.specs.Report.{AreWritten, PrintsRows}
+use Rattle.hh_reports.specs.Report.{AreOptions, PrintsRows}
 use Rattle.hh_files.specs.ReportFiles.{PrintsFileRows}
 use Rattle.hh_files.specs.SummaryFiles.{SavesSummary}
 use Rattle.hh_files.specs.TopFiles.{PrintsTop}
@@ -38,22 +37,27 @@ use Rattle.heavy_requests.specs.declared.request.Invocation.{Invocation}
 use Rattle.heavy_requests.specs.declared.request.RecordWords.{RecordWords}
 use Rattle.heavy_requests.specs.declared.request.Request.{Request}
 use Rattle.heavy_requests.specs.declared.request.Request.TheVariants.{Report, Answer}
-use Rattle.heavy_answers.specs.Columns.{InForm, bound_columns, bytes_in, report_columns, value_columns, weight_columns}
+use Rattle.heavy_answers.specs.Columns.{bound_columns, bytes_in, report_columns, value_columns, weight_columns}
 use Rattle.heavy_answers.specs.Inputs.{AreRecords}
 use Rattle.heavy_answers.specs.declared.single_pass.SinglePass.{SinglePass}
 use Rattle.heavy_answers.specs.declared.single_pass.SinglePass.TheVariants as one
 
 -- the names of the columns of the rows that a command prints; a saved file has none
-abbrev pub columns_of : Command → Option (List (List ℕ))
-columns_of (Top n rows workers memory) = Some (report_columns rows)
-columns_of (Summarise k method workers) = None
-columns_of (Table width depth seed workers) = None
-columns_of (Merge first others) = None
-columns_of (Ask name keys decimals) = Some bound_columns
-columns_of (ListKeys name decimals) = Some bound_columns
-columns_of (Describe name) = Some value_columns
-columns_of (Condense name workers) = Some weight_columns
-columns_of (Confirm name share rows workers) = Some (report_columns rows)
+abbrev pub columns_of_command : Command → Option (List (List ℕ))
+columns_of_command (Top n rows workers memory) = Some (report_columns rows)
+columns_of_command (Summarise k method workers) = None
+columns_of_command (Table width depth seed workers) = None
+columns_of_command (Merge first others) = None
+columns_of_command (Ask name keys decimals) = Some bound_columns
+columns_of_command (ListKeys name decimals) = Some bound_columns
+columns_of_command (Describe name) = Some value_columns
+columns_of_command (Condense name workers) = Some weight_columns
+columns_of_command (Confirm name share rows workers) = Some (report_columns rows)
+
+-- the names of the columns of the rows that are printed for a request
+abbrev pub columns_of : Request → Option (List (List ℕ))
+columns_of (Report options rows by_plan) = Some (report_columns rows)
+columns_of (Answer command) = columns_of_command command
 
 -- of the records that the words name this is made
 pub record OfRecords (opens : Bool → List ℕ → Option (List ℕ) → Type 0) (words : RecordWords) (Makes : Layout → Known → Type 0) : Type 0 where
@@ -102,11 +106,10 @@ pub record ByPlan (by_plan : Bool) (Planned Tallied : Type 0) : Type 0 where
   pub planned : by_plan ≡ true → Planned
   pub tallied : by_plan ≡ false → Tallied
 
--- the report of the records was written in the form that is asked for: by the plan that was asked for, or by tallies
-abbrev pub PrintsReport : Output → ReportOptions → RowOptions → Bool → Known → Option (List ℕ) → Option (List ℕ) → Type 0
-PrintsReport output options rows by_plan known old new =
-    ByPlan by_plan (AreWritten options (InForm output rows (PrintsRows rows options known)) old new)
-    (AreWritten options (InForm output rows (PrintsFileRows rows options known)) old new)
+-- these are the rows of the report of the records: by the plan that was asked for, or by tallies
+abbrev pub PrintsReport : ReportOptions → RowOptions → Bool → Known → List ℕ → Type 0
+PrintsReport options rows by_plan known bytes =
+    AreOptions options × ByPlan by_plan (PrintsRows rows options known bytes) (PrintsFileRows rows options known bytes)
 
 -- this holds of the saved file with this name
 abbrev pub OfSaved : (List ℕ → Option (List ℕ) → Type 0) → List ℕ → (List ℕ → Type 0) → Type 0
@@ -139,22 +142,23 @@ AnswersCommand gives opens (Confirm name share rows workers) words refuses outsi
     OfSaved gives name.items
     (λ file. OfRecords opens words (λ _ known. Confirms file share rows refuses outside known bytes))
 
--- the request was answered: what it asks for of the files that it names was written in the form that is asked for, and
--- nothing else
-abbrev pub AnswersRequest : (List ℕ → Option (List ℕ) → Type 0) → (Bool → List ℕ → Option (List ℕ) → Type 0) → Output → Request
-    → RecordWords → Bool → Option Outside → Option (List ℕ) → Option (List ℕ) → Type 0
-AnswersRequest gives opens output (Report options rows by_plan) words refuses outside old new =
-    OfRecords opens words (λ _ known. PrintsReport output options rows by_plan known old new)
-AnswersRequest gives opens output (Answer command) words refuses outside old new =
-    (bytes : List ℕ) × AnswersCommand gives opens command words refuses outside bytes
-    × Appends old new (bytes_in output (columns_of command) bytes)
+-- the bytes are what the request asks for of the files that it names, rows as CSV
+abbrev pub AnswersRequest : (List ℕ → Option (List ℕ) → Type 0) → (Bool → List ℕ → Option (List ℕ) → Type 0) → Request
+    → RecordWords → Bool → Option Outside → List ℕ → Type 0
+AnswersRequest gives opens (Report options rows by_plan) words refuses outside bytes =
+    OfRecords opens words (λ _ known. PrintsReport options rows by_plan known bytes)
+AnswersRequest gives opens (Answer command) words refuses outside bytes =
+    AnswersCommand gives opens command words refuses outside bytes
 
 -- whether a key whose weight contradicts a saved summary refuses the records: all but plain ones on standard input
 abbrev pub refuses_contradictions : RecordWords → Bool
 refuses_contradictions words = not (are_plain words)
 
--- what was asked for on the command line was answered so
+-- what was asked for on the command line was answered: what answers the request was written in the form that is asked for,
+-- and nothing else
 abbrev pub IsAnswered : (List ℕ → Option (List ℕ) → Type 0) → (Bool → List ℕ → Option (List ℕ) → Type 0) → Invocation
     → Option Outside → Option (List ℕ) → Option (List ℕ) → Type 0
 IsAnswered gives opens asked outside old new =
-    AnswersRequest gives opens asked.output asked.request asked.records (refuses_contradictions asked.records) outside old new
+    (bytes : List ℕ)
+    × AnswersRequest gives opens asked.request asked.records (refuses_contradictions asked.records) outside bytes
+    × Appends old new (bytes_in asked.output (columns_of asked.request) bytes)

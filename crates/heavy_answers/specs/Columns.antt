@@ -1,7 +1,7 @@
 -- The columns of the rows that are printed, and the form of what is written.
-use Rattle.std.specs.Prelude.{ℕ, ◌≡◌, List, [], ◌∷◌, Option, Some, None, codes, if◌then◌else◌}
-use Rattle.hh_output.specs.Outputs.{rows_in}
-use Rattle.hh_output.specs.declared.output.Output.{Output}
+use Rattle.std.specs.Prelude.{ℕ, List, [], ◌∷◌, Option, Some, None, codes, if◌then◌else◌}
+use Rattle.hh_rows.specs.Outputs.{rows_in}
+use Rattle.hh_rows.specs.declared.output.Output.{Output}
 use Rattle.hh_rows.specs.declared.printed.RowOptions.{RowOptions}
 
 -- the names of columns: of keys and their weights, of a report, of keys and their bounds, and of what is in a saved file
@@ -21,7 +21,3 @@ value_columns = codes "name" ∷ codes "value" ∷ []
 abbrev pub bytes_in : Output → Option (List (List ℕ)) → List ℕ → List ℕ
 bytes_in output None bytes = bytes
 bytes_in output (Some names) bytes = rows_in output names bytes
-
--- the bytes are rows of a report of which this holds, in the form that is asked for
-abbrev pub InForm : Output → RowOptions → (List ℕ → Type 0) → List ℕ → Type 0
-InForm output rows Holds bytes = (csv : List ℕ) × Holds csv × (bytes ≡ rows_in output (report_columns rows) csv)

@@ -2,7 +2,8 @@
 use Rattle.std.specs.Prelude.{ℕ, ◌≡◌, ◌||◌, Bool, true, false, ⊤, List, [], ◌∷◌, Option, IfSome, map}
 use Rattle.hh_stream.specs.Ranges.{in_range}
 use Rattle.hh_workers.specs.Workers.{max_workers}
-use Rattle.hh_records.specs.Layouts.{every, names_columns, records_known, stream_with, texts_known}
+use Rattle.hh_records.specs.Layouts.{every, names_columns, stream_with, texts_known}
+use Rattle.hh_pieces.specs.Texts.{records_known}
 use Rattle.hh_records.specs.LayoutWords.{SaysLayout}
 use Rattle.hh_records.specs.Streams.{Known}
 use Rattle.hh_records.specs.declared.layout.Layout.{Layout}

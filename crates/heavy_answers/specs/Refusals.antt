@@ -8,7 +8,6 @@ use Rattle.hh_records.specs.Refusals.{RefusedAfter}
 use Rattle.hh_records.specs.Streams.{Known}
 use Rattle.hh_records.specs.declared.layout.Layout.{Layout}
 use Rattle.hh_rows.specs.Sinks.{TakesFirst}
-use Rattle.hh_rows.specs.declared.printed.RowOptions.{RowOptions}
 use Rattle.hh_rows.specs.declared.report_options.ReportOptions.{ReportOptions}
 use Rattle.hh_rows.specs.declared.threshold.Share.{Share}
 use Rattle.hh_faults.specs.declared.error.ToolError.{ToolError}
@@ -22,10 +21,8 @@ use Rattle.hh_commands.specs.Merge.{merged_files}
 use Rattle.hh_commands.specs.Summarise.{word_of}
 use Rattle.hh_commands.specs.declared.commands.summarise.Method.{Method}
 use Rattle.hh_commands.specs.declared.compared.Outside.{Outside}
-use Rattle.hh_output.specs.declared.output.Output.{Output}
-use Rattle.hh_reports.specs.Report.{PrintsRows, WriteRefused, bad_option}
+use Rattle.hh_reports.specs.Report.{StartRefused, bad_option}
 use Rattle.hh_files.specs.FilePasses.{CondenseFilesRefused, ConfirmFilesRefused}
-use Rattle.hh_files.specs.ReportFiles.{PrintsFileRows}
 use Rattle.hh_files.specs.SummaryFiles.{bad_summary_of_files}
 use Rattle.hh_files.specs.TableFiles.{bad_table_of_files}
 use Rattle.hh_files.specs.TopFiles.{TopFilesRefused}
@@ -36,8 +33,8 @@ use Rattle.heavy_requests.specs.declared.request.Invocation.{Invocation}
 use Rattle.heavy_requests.specs.declared.request.RecordWords.{RecordWords}
 use Rattle.heavy_requests.specs.declared.request.Request.{Request}
 use Rattle.heavy_requests.specs.declared.request.Request.TheVariants.{Report, Answer}
-use Rattle.heavy_answers.specs.Answers.{AnswersCommand, ByPlan, OfRecords, columns_of, refuses_contradictions}
-use Rattle.heavy_answers.specs.Columns.{InForm, bytes_in}
+use Rattle.heavy_answers.specs.Answers.{AnswersRequest, OfRecords, columns_of, refuses_contradictions}
+use Rattle.heavy_answers.specs.Columns.{bytes_in}
 use Rattle.heavy_answers.specs.Inputs.{AreRecords, standard_name}
 use Rattle.heavy_answers.specs.declared.single_pass.SinglePass.{SinglePass}
 use Rattle.heavy_answers.specs.declared.single_pass.SinglePass.TheVariants as one
@@ -165,51 +162,30 @@ CommandFails gives opens unopened (Confirm name share rows workers) words refuse
     SavedFails gives name.items
     (λ file. ReadingFails opens unopened words 1 workers (ConfirmFails refuses share workers file)) e
 
--- a refusal of a command has written nothing, but where its answer could not be written: then a part of it. There may be no
--- memory for the form that is asked for
-abbrev pub AnswerRefused : (List ℕ → Option (List ℕ) → Type 0) → (Bool → List ℕ → Option (List ℕ) → Type 0)
-    → (List ℕ → ℕ → ToolError → Type 0) → Output → Command → RecordWords → Bool → Option Outside → Option (List ℕ) → Option (List ℕ)
-    → ToolError → Type 0
-AnswerRefused gives opens unopened output command words refuses outside old new e =
-    ((CommandFails gives opens unopened command words refuses e ⊎ (e ≡ tool.Memory)) × Keeps old new)
-    ⊎ ((bytes : List ℕ) × (n : ℕ) × AnswersCommand gives opens command words refuses outside bytes
-    × TakesFirst old new (bytes_in output (columns_of command) bytes) n × (e ≡ tool.WriteFault n))
-
--- the report of the records is refused as the library refuses it, and where a write fails a part of it is written in the form
--- that is asked for: by the plan that was asked for, or by tallies
-abbrev pub RowsFail : Output → ReportOptions → RowOptions → Bool → Known → Option (List ℕ) → Option (List ℕ) → ToolError → Type 0
-RowsFail output options rows by_plan known old new e =
-    ByPlan by_plan (WriteRefused options known (InForm output rows (PrintsRows rows options known)) old new e)
-    (WriteRefused options known (InForm output rows (PrintsFileRows rows options known)) old new e)
-
 -- the report can't begin: the inputs can't be opened, an option is refused, or behind the options an input can't be kept
 abbrev pub BeginRefused : (List ℕ → ℕ → ToolError → Type 0) → ReportOptions → RecordWords → ToolError → Type 0
 BeginRefused unopened options words e =
     OpenRefused unopened words 0 e ⊎ (bad_option options ≡ Some e) ⊎ ((bad_option options ≡ None) × IsUnkept e)
 
--- the report is refused with nothing written, since it can't begin; or the library refuses it
-abbrev pub ReportFails : (Bool → List ℕ → Option (List ℕ) → Type 0) → (List ℕ → ℕ → ToolError → Type 0) → Output → ReportOptions
-    → RowOptions → Bool → RecordWords → Option (List ℕ) → Option (List ℕ) → ToolError → Type 0
-ReportFails opens unopened output options rows by_plan words old new e =
-    (BeginRefused unopened options words e × Keeps old new)
-    ⊎ OfRecords opens words (λ _ known. RowsFail output options rows by_plan known old new e)
+-- the report is refused: it can't begin, or the library refuses it
+abbrev pub ReportFails : (Bool → List ℕ → Option (List ℕ) → Type 0) → (List ℕ → ℕ → ToolError → Type 0) → ReportOptions
+    → RecordWords → ToolError → Type 0
+ReportFails opens unopened options words e =
+    BeginRefused unopened options words e ⊎ OfRecords opens words (λ _ known. StartRefused options known e)
 
--- what was asked for is refused so
-abbrev pub RequestRefused : (List ℕ → Option (List ℕ) → Type 0) → (Bool → List ℕ → Option (List ℕ) → Type 0)
-    → (List ℕ → ℕ → ToolError → Type 0) → Output → Request → RecordWords → Bool → Option Outside → Option (List ℕ) → Option (List ℕ)
-    → ToolError → Type 0
-RequestRefused gives opens unopened output (Report options rows by_plan) words refuses outside old new e =
-    ReportFails opens unopened output options rows by_plan words old new e
-RequestRefused gives opens unopened output (Answer command) words refuses outside old new e =
-    AnswerRefused gives opens unopened output command words refuses outside old new e
+-- what was asked for is refused before anything is written
+abbrev pub RequestFails : (List ℕ → Option (List ℕ) → Type 0) → (Bool → List ℕ → Option (List ℕ) → Type 0)
+    → (List ℕ → ℕ → ToolError → Type 0) → Request → RecordWords → Bool → ToolError → Type 0
+RequestFails gives opens unopened (Report options rows by_plan) words refuses e = ReportFails opens unopened options words e
+RequestFails gives opens unopened (Answer command) words refuses e = CommandFails gives opens unopened command words refuses e
 
--- what was asked for on the command line is refused so
+-- what was asked for on the command line is refused. Nothing is written, but where the answer could not be: then a part of it.
+-- There may be no memory for the form that is asked for
 abbrev pub IsRefused : (List ℕ → Option (List ℕ) → Type 0) → (Bool → List ℕ → Option (List ℕ) → Type 0)
     → (List ℕ → ℕ → ToolError → Type 0) → Invocation → Option Outside → Option (List ℕ) → Option (List ℕ) → ToolError → Type 0
 IsRefused gives opens unopened asked outside old new e =
-    RequestRefused gives opens unopened asked.output asked.request asked.records (refuses_contradictions asked.records) outside old new e
-
--- the fault of rows that could not be kept in memory, and any other as it is
-abbrev pub kept_fault : ToolError → ToolError
-kept_fault (tool.WriteFault n) = tool.Memory
-kept_fault e = e
+    ((RequestFails gives opens unopened asked.request asked.records (refuses_contradictions asked.records) e ⊎ (e ≡ tool.Memory))
+    × Keeps old new)
+    ⊎ ((bytes : List ℕ) × (n : ℕ)
+    × AnswersRequest gives opens asked.request asked.records (refuses_contradictions asked.records) outside bytes
+    × TakesFirst old new (bytes_in asked.output (columns_of asked.request) bytes) n × (e ≡ tool.WriteFault n))

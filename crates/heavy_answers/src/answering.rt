@@ -3,16 +3,15 @@
 ghost use Rattle.std.specs.Prelude.{◌≡◌, ◌∷◌, map, option_map, None, Some, false, true, IfErr, IfOk, OnOk};
 ghost use Rattle.hh_commands.specs.Files.{Refuses};
 ghost use Rattle.hh_commands.specs.Merge.{merged_files};
-ghost use Rattle.heavy_answers.specs.Answers.{AnswersCommand, IsAnswered, MakesMerge, OfRecords};
-ghost use Rattle.heavy_answers.specs.Answers.{PrintsReport, columns_of};
+ghost use Rattle.heavy_answers.specs.Answers.{AnswersCommand, AnswersRequest, IsAnswered};
+ghost use Rattle.heavy_answers.specs.Answers.{MakesMerge, OfRecords, PrintsReport, columns_of};
+ghost use Rattle.heavy_answers.specs.Answers.{columns_of_command};
 ghost use Rattle.heavy_answers.specs.Refusals.{CommandFails, FilesFail, IsRefused, ReportFails};
-ghost use Rattle.heavy_answers.specs.Refusals.{TopFails, kept_fault};
+ghost use Rattle.heavy_answers.specs.Refusals.{RequestFails, TopFails};
 ghost use Rattle.hh_files.specs.TopFiles.{PrintsTop};
-ghost use Rattle.hh_output.specs.Outputs.{plain_output};
 
-use crate::columns::{BOUNDS, Names, VALUES, WEIGHTS, bytes_in, is_plain, report_columns};
+use crate::columns::{BOUNDS, Names, VALUES, WEIGHTS, bytes_in, report_columns};
 use crate::host::Host;
-use crate::kept::Kept;
 use crate::opening::{into_kept, open, open_records};
 use crate::single_pass::{SinglePass, in_one_pass};
 use heavy_host::{read_file, read_files};
@@ -20,7 +19,6 @@ use heavy_requests::{Command, Invocation, MEGABYTE, RecordWords, Request};
 use hh_commands::{Comparison, Method, ask_rows, describe_file, list_rows, merge_bytes};
 use hh_faults::ToolError;
 use hh_files::{TopOptions, report_files, top_files};
-use hh_output::{Output, converted};
 use hh_reports::{check_options, report_rows};
 use hh_rows::{ReportOptions, RowOptions, Sink, put};
 use hh_stream::in_range;
@@ -73,9 +71,9 @@ fn top<T: Threads + Wait + Sync, H: Host>(
 }
 
 /// Gives the names of the columns of the rows that `command` prints. A saved file has none.
-fn columns_of(command: &Command) -> Option<Names>
+fn columns_of_command(command: &Command) -> Option<Names>
     ensures { option_map (λ names. map (λ name. name.now) names.now) result
-        ≡ columns_of command.now }
+        ≡ columns_of_command command.now }
 {
     match command {
         Command::Summarise { .. } | Command::Table { .. } | Command::Merge { .. } => None,
@@ -88,7 +86,7 @@ fn columns_of(command: &Command) -> Option<Names>
 
 /// Makes the whole output of `command`, over the records that `words` name if it reads any. It
 /// stores in `compared` where a saved summary and the records differ.
-fn bytes_of<T: Threads + Wait + Sync, H: Host>(
+fn bytes_of_command<T: Threads + Wait + Sync, H: Host>(
     threads: &T,
     host: &H,
     command: &Command,
@@ -155,80 +153,66 @@ fn bytes_of<T: Threads + Wait + Sync, H: Host>(
     }
 }
 
-/// Writes the report of the records that `words` name to `sink`, as CSV. All inputs are opened
-/// first, then the options are tested, and only then is anything read: a pipe, which can be read
-/// only once, is untouched when an option is refused. With `by_plan`, one thread reads the inputs
-/// once.
-fn report<T: Threads + Wait + Sync, H: Host, S: Sink>(
+/// Makes the rows of the report of the records that `words` name. All inputs are opened first, then
+/// the options are tested, and only then is anything read: a pipe, which can be read only once, is
+/// untouched when an option is refused. With `by_plan`, one thread reads the inputs once.
+fn report<T: Threads + Wait + Sync, H: Host>(
     threads: &T,
     host: &H,
     options: &ReportOptions,
     rows: &RowOptions,
     words: &RecordWords,
     by_plan: bool,
-    sink: &mut S,
-) -> Result<(), ToolError>
-    requires { S.has_failed sink.old ≡ false }
-    ensures made { OnOk result (OfRecords (H.opens host.now) words.now (λ _ known.
-        PrintsReport plain_output options.now rows.now by_plan known
-        (S.taken sink.old) (S.taken sink.new))) }
-    ensures refused { IfErr result (ReportFails (H.opens host.now) (H.unopened host.now)
-        plain_output options.now rows.now by_plan words.now (S.taken sink.old)
-        (S.taken sink.new)) }
-    ensures flushed { OnOk result (S.is_flushed sink.new ≡ true) }
+) -> Result<Vec<u8>, ToolError>
+    ensures made { IfOk result (λ bytes. OfRecords (H.opens host.now) words.now (λ _ known.
+        PrintsReport options.now rows.now by_plan known bytes.items)) }
+    ensures refused { IfErr result
+        (ReportFails (H.opens host.now) (H.unopened host.now) options.now words.now) }
 {
     let alloc = host.alloc();
     if by_plan {
         let records = open_records(host, words, 0)?;
-        return Ok(report_rows(threads, alloc, options, rows, records, sink)?);
+        return report_rows(threads, alloc, options, rows, records);
     }
     let opened = open(host, words, 0)?;
     check_options(options)?;
     let files = into_kept(host, opened)?;
-    report_files(threads, alloc, options, rows, files.records(), sink)?;
-    Ok(())
+    let bytes = report_files(threads, alloc, options, rows, files.records())?;
+    Ok(bytes)
 }
 
-/// Gives the fault of rows that could not be kept in memory, and any other `fault` as it is.
-fn kept_fault(fault: ToolError) -> ToolError
-    ensures { result ≡ kept_fault fault }
+/// Gives the names of the columns of the rows that `request` asks for. A saved file has none.
+fn columns_of(request: &Request) -> Option<Names>
+    ensures { option_map (λ names. map (λ name. name.now) names.now) result
+        ≡ columns_of request.now }
 {
-    match fault {
-        ToolError::WriteFault { .. } => ToolError::Memory,
-        _ => fault,
+    match request {
+        Request::Report { rows, .. } => Some(report_columns(rows)),
+        Request::Answer(command) => columns_of_command(command),
     }
 }
 
-/// Makes the report of the records that `words` name whole, and writes it to `sink` in the form
-/// that `output` asks for.
-fn converted_report<T: Threads + Wait + Sync, H: Host, S: Sink>(
+/// Makes the whole output of `request`, as CSV where it is rows, over the records that `words` name
+/// if it reads any. It stores in `compared` where a saved summary and the records differ.
+fn bytes_of<T: Threads + Wait + Sync, H: Host>(
     threads: &T,
     host: &H,
-    output: &Output,
-    options: &ReportOptions,
-    rows: &RowOptions,
+    request: &Request,
     words: &RecordWords,
-    by_plan: bool,
-    sink: &mut S,
-) -> Result<(), ToolError>
-    requires { S.has_failed sink.old ≡ false }
-    ensures made { OnOk result (OfRecords (H.opens host.now) words.now (λ _ known. PrintsReport
-        output.now options.now rows.now by_plan known (S.taken sink.old) (S.taken sink.new))) }
-    ensures refused { IfErr result (ReportFails (H.opens host.now) (H.unopened host.now)
-        output.now options.now rows.now by_plan words.now (S.taken sink.old) (S.taken sink.new)) }
-    ensures flushed { OnOk result (S.is_flushed sink.new ≡ true) }
+    compared: &mut Comparison,
+) -> Result<Vec<u8>, ToolError>
+    ensures made { IfOk result (λ bytes. AnswersRequest (H.gives host.now) (H.opens host.now)
+        request.now words.now compared.old.refuses compared.new.outside bytes.items) }
+    ensures refused { IfErr result (RequestFails (H.gives host.now) (H.opens host.now)
+        (H.unopened host.now) request.now words.now compared.old.refuses) }
 {
-    let alloc = host.alloc();
-    let mut kept = Kept::new(alloc);
-    match report(threads, host, options, rows, words, by_plan, &mut kept) {
-        Ok(()) => {
-            let Ok(bytes) = converted(alloc, output, report_columns(rows), kept.text) else {
-                return Err(ToolError::Memory);
-            };
-            put(sink, &bytes)?;
-            Ok(())
-        }
-        Err(fault) => Err(kept_fault(fault)),
+    match request {
+        Request::Report {
+            options,
+            rows,
+            by_plan,
+        } => report(threads, host, options, rows, words, *by_plan),
+        Request::Answer(command) => bytes_of_command(threads, host, command, words, compared),
     }
 }
 
@@ -253,24 +237,9 @@ pub fn answer<T: Threads + Wait + Sync, H: Host, S: Sink>(
     ensures flushed { OnOk result (S.is_flushed sink.new ≡ true) }
 {
     compared.refuses = !asked.records.are_plain();
-    match &asked.request {
-        Request::Report {
-            options,
-            rows,
-            by_plan,
-        } => {
-            let (output, words) = (&asked.output, &asked.records);
-            if is_plain(output) {
-                report(threads, host, options, rows, words, *by_plan, sink)
-            } else {
-                converted_report(threads, host, output, options, rows, words, *by_plan, sink)
-            }
-        }
-        Request::Answer(command) => {
-            let bytes = bytes_of(threads, host, command, &asked.records, compared)?;
-            let bytes = bytes_in(host.alloc(), &asked.output, columns_of(command), bytes)?;
-            put(sink, &bytes)?;
-            Ok(())
-        }
-    }
+    let request = &asked.request;
+    let bytes = bytes_of(threads, host, request, &asked.records, compared)?;
+    let bytes = bytes_in(host.alloc(), &asked.output, columns_of(request), bytes)?;
+    put(sink, &bytes)?;
+    Ok(())
 }

@@ -1,11 +1,9 @@
 //! The columns of the rows that are printed, and the form of what is written.
 
-ghost use Rattle.std.specs.Prelude.{◌≡◌, ◌↔◌, IfOk, map, option_map, true};
-ghost use Rattle.hh_output.specs.Outputs.{plain_output};
+ghost use Rattle.std.specs.Prelude.{◌≡◌, IfOk, map, option_map};
 ghost use Rattle.heavy_answers.specs.Columns.{bytes_in, report_columns};
 
-use hh_output::{Output, converted};
-use hh_rows::RowOptions;
+use hh_rows::{Output, RowOptions, converted};
 use std::alloc::{AllocError, Global};
 
 /// The names of columns.
@@ -18,13 +16,6 @@ const SHARES: Names = &[b"key", b"weight", b"share"];
 pub(crate) const BOUNDS: Names = &[b"key", b"low", b"high"];
 
 pub(crate) const VALUES: Names = &[b"name", b"value"];
-
-/// Whether rows are printed as CSV, with no names of columns.
-pub(crate) fn is_plain(output: &Output) -> bool
-    ensures { (result ≡ true) ↔ (output.now ≡ plain_output) }
-{
-    *output == Output::plain()
-}
 
 /// Gives the names of the columns of a report.
 pub(crate) fn report_columns(rows: &RowOptions) -> Names

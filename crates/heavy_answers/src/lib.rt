@@ -5,7 +5,6 @@
 mod answering;
 mod columns;
 mod host;
-mod kept;
 mod opening;
 mod single_pass;
 

@@ -1,7 +1,8 @@
 //! Opens the inputs of records that a request names.
 
 ghost use Rattle.std.specs.Prelude.{◌≡◌, ◌<◌, ◌∷◌, ◌++◌, ◌||◌, ◌⊎◌, ℕ, [], false, true, length, map, Err, IfErr, IfOk, IsErr, OnOk};
-ghost use Rattle.hh_records.specs.Layouts.{every, records_known};
+ghost use Rattle.hh_records.specs.Layouts.{every};
+ghost use Rattle.hh_pieces.specs.Texts.{records_known};
 ghost use Rattle.hh_records.specs.LayoutWords.{LayoutRefused, SaysLayout};
 ghost use Rattle.hh_stream.specs.Ranges.{in_range};
 ghost use Rattle.hh_workers.specs.Workers.{max_workers};
@@ -15,8 +16,8 @@ use crate::host::Host;
 use heavy_host::is_standard;
 use heavy_requests::RecordWords;
 use hh_faults::ToolError;
-use hh_pieces::SourceRecords;
-use hh_records::{Layout, Records, layout_of};
+use hh_pieces::{Records, SourceRecords};
+use hh_records::{Layout, layout_of};
 use hh_stream::in_range;
 use hh_workers::MAX_WORKERS;
 

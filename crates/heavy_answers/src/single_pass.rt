@@ -3,7 +3,7 @@
 ghost use Rattle.std.specs.Prelude.{◌≡◌, true, IfErr, IfOk, OnOk};
 ghost use Rattle.hh_workers.specs.Workers.{max_workers};
 ghost use Rattle.hh_stream.specs.Ranges.{in_range};
-ghost use Rattle.hh_records.specs.Layouts.{records_known};
+ghost use Rattle.hh_pieces.specs.Texts.{records_known};
 ghost use Rattle.hh_pieces.specs.Sources.{sources_known};
 ghost use Rattle.heavy_answers.specs.Answers.{MakesInOnePass, OfRecords};
 ghost use Rattle.heavy_answers.specs.Refusals.{FailsInOnePass, ReadingFails};
@@ -16,8 +16,7 @@ use hh_commands::{
 };
 use hh_faults::ToolError;
 use hh_files::{condense_files, confirm_files, summarise_files, table_files};
-use hh_pieces::{ReadAt, SourceRecords};
-use hh_records::Records;
+use hh_pieces::{ReadAt, Records, SourceRecords};
 use hh_rows::{RowOptions, Share};
 use std::alloc::Global;
 use std::io::Read;

@@ -18,8 +18,8 @@ ghost use Rattle.hh_records.specs.Layouts.{delimited};
 ghost use Rattle.hh_records.specs.Streams.{ReadsAs, text_known};
 ghost use Rattle.csv.specs.Writing.{comma};
 ghost use Rattle.hh_rows.specs.Rows.{rows_of};
-ghost use Rattle.hh_output.specs.Outputs.{plain_output, rows_in};
-ghost use Rattle.hh_output.specs.declared.output.Form.TheVariants as form;
+ghost use Rattle.hh_rows.specs.Outputs.{plain_output, rows_in};
+ghost use Rattle.hh_rows.specs.declared.output.Form.TheVariants as form;
 ghost use Rattle.hh_pieces.specs.Pieces.{ends_outside};
 ghost use Rattle.hh_workers.specs.PlanTexts.{SpellsTree};
 ghost use Rattle.hh_commands.specs.Describe.{description};
@@ -36,12 +36,11 @@ use hh_faults::{SavedFault, TextError, ToolError};
 use hh_files::table_files;
 use hh_json::members;
 use hh_library::{add_items, summary_bytes};
-use hh_output::{Form, Output, converted};
-use hh_pieces::{ReadAt, SourceRecords, ends_outside_quotes};
+use hh_pieces::{ReadAt, SourceRecords, ends_outside_quotes, read_stream};
 use hh_pool::{OpenGate, Options, Plan, RunError, analyse};
-use hh_records::{Format, read_stream};
+use hh_records::Format;
 use hh_reports::run_report;
-use hh_rows::{ReportOptions, Sink, report_text};
+use hh_rows::{Form, Output, ReportOptions, Sink, converted, report_text};
 use hh_saved::{Saved, read};
 use hh_shared::{SharedSums, SumSeat};
 use hh_stream::{Cutting, Key, PushRefused, Stream};
@@ -137,23 +136,16 @@ pub fn total_of_records<R: Read + Drop>(alloc: Global, reader: R) -> Result<u64,
     Ok(stream.total())
 }
 
-/// The rows of a report.
-pub fn text_of_rows(alloc: Global, rows: &[Heavy]) -> Result<Vec<u8>, AllocError>
-    ensures { IfOk result (λ text. text.items ≡ rows_of rows.now) }
-{
-    report_text(alloc, rows)
-}
-
-/// Rows that were printed as CSV, as JSON.
-pub fn rows_as_json(alloc: Global, names: &[&[u8]], text: Vec<u8>) -> Result<Vec<u8>, AllocError>
-    ensures { IfOk result (λ rows. rows.items ≡ rows_in (record plain_output { form = form.Json })
-        (map (λ name. name.now) names.now) text.items) }
+/// The rows of a report, as JSON.
+pub fn rows_as_json(alloc: Global, names: &[&[u8]], rows: &[Heavy]) -> Result<Vec<u8>, AllocError>
+    ensures { IfOk result (λ text. text.items ≡ rows_in (record plain_output { form = form.Json })
+        (map (λ name. name.now) names.now) (rows_of rows.now)) }
 {
     let output = Output {
         form: Form::Json,
         has_names: false,
     };
-    converted(alloc, &output, names, text)
+    converted(alloc, &output, names, report_text(alloc, rows)?)
 }
 
 /// Whether a line feed after a text of records ends a record.

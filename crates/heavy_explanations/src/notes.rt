@@ -5,9 +5,8 @@ use crate::file_names::FileNames;
 use crate::thresholds::{MOST_COUNTERS, is_least};
 use heavy_progress::{FormatHints, LongRecord};
 use heavy_requests::{Invocation, Request};
-use hh_output::Form;
 use hh_records::{Format, LayoutWords};
-use hh_rows::Share;
+use hh_rows::{Form, Share};
 use std::fmt::{self, Display};
 
 /// Whether no option says how records are parted: none of `layout`.

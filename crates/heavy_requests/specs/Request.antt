@@ -14,9 +14,9 @@ use Rattle.hh_rows.specs.declared.report_options.Tree.TheVariants as shape
 use Rattle.hh_rows.specs.declared.printed.RowOptions.{RowOptions}
 use Rattle.hh_rows.specs.declared.threshold.Share.{Share}
 use Rattle.hh_rows.specs.declared.threshold.Share.TheVariants as limit
-use Rattle.hh_output.specs.declared.output.Form.{Form}
-use Rattle.hh_output.specs.declared.output.Form.TheVariants as form
-use Rattle.hh_output.specs.declared.output.Output.{Output}
+use Rattle.hh_rows.specs.declared.output.Form.{Form}
+use Rattle.hh_rows.specs.declared.output.Form.TheVariants as form
+use Rattle.hh_rows.specs.declared.output.Output.{Output}
 use Rattle.heavy_arguments.specs.CommandLine.{IsProgram}
 use Rattle.heavy_arguments.specs.Numbers.{IsNumberOf, number_in}
 use Rattle.heavy_host.specs.Words.{AreAllWords, word_of}

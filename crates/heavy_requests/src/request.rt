@@ -19,9 +19,8 @@ use heavy_arguments::{
     SUMMARY_WORKERS, TOP, TOP_MEMORY, UNTIL, WEIGHT, WIDTH, WORKERS, command_line,
 };
 use heavy_host::{WordSource, after_first, bytes_of, read_words, texts_of};
-use hh_output::{Form, Output};
 use hh_records::{Format, LayoutWords, delimiter_of};
-use hh_rows::{ReportOptions, RowOptions, Share, Tree};
+use hh_rows::{Form, Output, ReportOptions, RowOptions, Share, Tree};
 use std::alloc::{AllocError, Global};
 use std::io::IsTerminal;
 

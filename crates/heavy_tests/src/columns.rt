@@ -1,7 +1,8 @@
 //! Records in several texts, and in columns of one's own.
 
 use crate::fixtures::assert_same;
-use hh_records::{BadRecordCause, Column, Layout, Records, TextError, read_records};
+use hh_pieces::{Records, read_records};
+use hh_records::{BadRecordCause, Column, Layout, TextError};
 use hh_stream::Stream;
 use std::process::Abort;
 

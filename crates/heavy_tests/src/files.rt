@@ -3,12 +3,10 @@
 
 ghost use Rattle.std.specs.Prelude.{◌≡◌, None, false, ⊤};
 
-use crate::devices::{FaultyWriter, Manner};
 use crate::fixtures::assert_same;
 use heavy::{
-    Comparison, Layout, Method, Out, ReadAt, ReportOptions, RowOptions, Share, SourceRecords,
-    ToolError, Tree, condense_files, confirm_files, report_files, summarise_files, summary_bytes,
-    table_files,
+    Comparison, Layout, Method, ReadAt, ReportOptions, RowOptions, Share, SourceRecords, ToolError,
+    Tree, condense_files, confirm_files, report_files, summarise_files, summary_bytes, table_files,
 };
 use std::io::{self, Error, ErrorKind, Read};
 use std::process::Abort;
@@ -106,23 +104,20 @@ fn with_many_keys(rt: &(impl Abort + AllocGlobal), record: &str) -> String {
     text
 }
 
-/// Writes a report of these records to what is `taken`, and gives the refusal.
-fn report_to<F: ReadAt + Sync>(
+/// Makes the rows of a report of these records.
+fn reported<F: ReadAt + Sync>(
     rt: &(impl Abort + AllocGlobal + Threads + Wait + Sync),
     records: SourceRecords<'_, F>,
-    taken: &mut Vec<u8>,
-) -> Option<ToolError> {
-    let mut out = Out::new(FaultyWriter::new(Manner::taking(99), taken));
-    let rows = RowOptions::plain();
-    report_files(rt, rt.alloc(), &options(), &rows, records, &mut out).err()
+) -> Result<Vec<u8>, ToolError> {
+    report_files(rt, rt.alloc(), &options(), &RowOptions::plain(), records)
 }
 
-/// What is written of a report of such a file, which is read twice, the refusal, and how many calls
-/// there were.
+/// Makes the rows of a report of such a file, which is read twice, or the refusal, and tells how
+/// many calls there were.
 fn report_of(
     rt: &(impl Abort + AllocGlobal + Threads + Wait + Sync),
     course: Course,
-) -> (Vec<u8>, Option<ToolError>, u64) {
+) -> (Result<Vec<u8>, ToolError>, u64) {
     let calls = AtomicU64::new(0);
     let sources = [ManyRecords {
         course,
@@ -135,22 +130,21 @@ fn report_of(
         layout: &layout,
         sources: &sources,
     };
-    let mut taken = Vec::new(rt.alloc());
-    let fault = report_to(rt, records, &mut taken);
-    (taken, fault, calls.load(Ordering::SeqCst))
+    let outcome = reported(rt, records);
+    (outcome, calls.load(Ordering::SeqCst))
 }
 
-/// Asserts that the report is refused, with nothing written.
+/// Asserts that the report is refused.
 fn assert_refused(rt: &(impl Abort + AllocGlobal + Threads + Wait + Sync), course: Course) {
-    let (taken, refusal, _) = report_of(rt, course);
-    assert_same(rt, refusal, Some(ToolError::ReadFault));
-    assert!(rt; taken.is_empty());
+    let (outcome, _) = report_of(rt, course);
+    assert_same(rt, outcome.err(), Some(ToolError::ReadFault));
 }
 
 #[test]
 fn each_read_of_a_file_fails(rt: HostRuntime) {
-    let (rows, none, reads) = report_of(&rt, Course::Fails(0));
-    assert_same(&rt, (rows.as_slice(), none), (b"a,5000\n".as_slice(), None));
+    let (outcome, reads) = report_of(&rt, Course::Fails(0));
+    let rows = outcome.expect(&rt, "a report");
+    assert_same(&rt, rows.as_slice(), b"a,5000\n".as_slice());
     assert!(rt; 2 <= reads && reads < 99);
     for from in 1..=reads {
         assert_refused(&rt, Course::Fails(from));
@@ -188,18 +182,6 @@ const VERBS: [Verb; 6] = [
 /// The summary of these records, with one counter.
 fn summary_of(rt: &(impl Abort + AllocGlobal), bytes: &[u8]) -> Vec<u8> {
     summary_bytes(rt.alloc(), 1, Method::MisraGries, bytes).expect(rt, "a summary")
-}
-
-/// What is written of a report of these records.
-fn reported<F: ReadAt + Sync>(
-    rt: &(impl Abort + AllocGlobal + Threads + Wait + Sync),
-    records: SourceRecords<'_, F>,
-) -> Result<Vec<u8>, ToolError> {
-    let mut taken = Vec::new(rt.alloc());
-    match report_to(rt, records, &mut taken) {
-        None => Ok(taken),
-        Some(fault) => Err(fault),
-    }
 }
 
 /// The summary of `bytes`, condensed over these records.

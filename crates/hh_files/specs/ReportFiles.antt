@@ -1,14 +1,13 @@
--- What a report of files leaves in a sink, and what its refusals tell. Files are read more than once, so
--- that of files whose bytes no contract knows nothing is said of the keys.
+-- What a report of files has. Files are read more than once, so that of files whose bytes no contract knows
+-- nothing is said of the keys.
 use Rattle.std.specs.Prelude.{◌≡◌, ◌≤◌, ◌+◌, ◌∷◌, ℕ, List, [], map, replicate, Option, Some, None, IfSome}
 use Rattle.hh_stream.specs.Cuttings.{whole_of}
 use Rattle.hh_stream.specs.Weights.{Entry, max_total, total_of}
 use Rattle.hh_summaries.specs.Report.{heavy}
 use Rattle.hh_records.specs.Streams.{Known}
 use Rattle.hh_rows.specs.declared.printed.RowOptions.{RowOptions}
-use Rattle.hh_reports.specs.Report.{AreKeysOf, AreWritten, PrintsRows, WriteRefused}
+use Rattle.hh_reports.specs.Report.{AreKeysOf, PrintsRows}
 use Rattle.hh_rows.specs.declared.report_options.ReportOptions.{ReportOptions}
-use Rattle.hh_faults.specs.declared.error.ToolError.{ToolError}
 
 -- the items of a piece of files, and for one that can't be read by itself more than a total may be
 abbrev pub items_or_too_many : Option (List Entry) → List Entry
@@ -38,11 +37,3 @@ FindsKeys known p q total keys = IfKnown known (AreKeysOf known p q total keys)
 -- where the records' bytes are known, these are the rows of a report of them
 abbrev pub PrintsFileRows : RowOptions → ReportOptions → Known → List ℕ → Type 0
 PrintsFileRows r o known rows = IfKnown known (PrintsRows r o known rows)
-
--- a whole report was written, as the options of rows want it
-abbrev pub IsPrintedOfFiles : RowOptions → ReportOptions → Known → Option (List ℕ) → Option (List ℕ) → Type 0
-IsPrintedOfFiles r o known old new = AreWritten o (PrintsFileRows r o known) old new
-
--- what each refusal of a report of files tells, and what it leaves in the sink
-abbrev pub FilesRefused : RowOptions → ReportOptions → Known → Option (List ℕ) → Option (List ℕ) → ToolError → Type 0
-FilesRefused r o known old new e = WriteRefused o known (PrintsFileRows r o known) old new e

@@ -1,6 +1,6 @@
 //! A report of files, of which no item is kept.
 
-ghost use Rattle.std.specs.Prelude.{◌≡◌, ◌<◌, ◌≤◌, ◌+◌, ◌*◌, All, List, false, true, IfOk, IfErr, IfSome, OnOk, Err};
+ghost use Rattle.std.specs.Prelude.{◌≡◌, ◌<◌, ◌≤◌, ◌+◌, ◌*◌, All, List, true, IfOk, IfErr, IfSome, OnOk, Err};
 ghost use Rattle.hh_summaries.specs.Counters.{max_k};
 ghost use Rattle.hh_summaries.specs.Report.{IsShare};
 ghost use Rattle.hh_stream.specs.Cuttings.{max_pieces};
@@ -11,8 +11,7 @@ ghost use Rattle.hh_records.specs.Refusals.{RecordsRefused};
 ghost use Rattle.hh_workers.specs.Workers.{max_workers};
 ghost use Rattle.hh_reports.specs.Report.{AreOptions, ReportsKeys};
 ghost use Rattle.hh_reports.specs.Report.{StartRefused, bad_option};
-ghost use Rattle.hh_rows.specs.Sinks.{failed_by};
-ghost use Rattle.hh_files.specs.ReportFiles.{AreKeysOfPieces, FilesRefused, FindsKeys, IfKnown, IsPrintedOfFiles};
+ghost use Rattle.hh_files.specs.ReportFiles.{AreKeysOfPieces, FindsKeys, IfKnown, PrintsFileRows};
 
 use crate::file_pieces::FilePieces;
 use hh_commands::{count_records, rows_above, summary_by_monitoring};
@@ -23,7 +22,7 @@ use hh_pieces::{CutFiles, ReadAt, SourceRecords};
 use hh_pool::{Options, PieceFault, report_pieces};
 use hh_records::ReadRecords;
 use hh_reports::{Prepared, piece_count, prepare};
-use hh_rows::{ReportOptions, RowOptions, Sink, write_printed};
+use hh_rows::{ReportOptions, RowOptions, printed_text};
 use hh_stream::KeyHash;
 use std::alloc::{AllocError, Global};
 use std::sync::Wait;
@@ -154,35 +153,31 @@ fn reported_of_files<T: Threads + Wait + Sync, S: ReadAt + Sync>(
     }
 }
 
-/// Writes the report of files of any size, as [`report_rows`](hh_reports::report_rows) does, or of
-/// other bytes that can be read at any place, such as those of a pipe that were kept. No item is
-/// kept: workers read the files in pieces, through a buffer each, and tally their items. If the
-/// keys are few, one pass is enough; else a second one weighs the keys that can be heavy. If a
-/// piece can't be read by itself, one thread reads all files, twice, so that an error has the
-/// number of its record. Only [`ToolError::WriteFault`] leaves a part of the rows in `sink`.
+/// Makes the rows of the report of files of any size, as [`report_rows`](hh_reports::report_rows)
+/// does, or of other bytes that can be read at any place, such as those of a pipe that were kept.
+/// No item is kept: workers read the files in pieces, through a buffer each, and tally their items.
+/// If the keys are few, one pass is enough; else a second one weighs the keys that can be heavy. If
+/// a piece can't be read by itself, one thread reads all files, twice, so that an error has the
+/// number of its record.
 ///
 /// Where the bytes of all files are known, the report is that of their records, one file after the
 /// other. Where a file was changed while it was read, the error is [`ToolError::ReadFault`]; one
 /// that has only grown wasn't ([`GrowingFile`](hh_pieces::GrowingFile)). Where the total weights of
 /// two readings differ all the same, one thread reads the files anew, and they are compared again.
-pub fn report_files<T: Threads + Wait + Sync, F: ReadAt + Sync, S: Sink>(
+pub fn report_files<T: Threads + Wait + Sync, F: ReadAt + Sync>(
     rt: &T,
     alloc: Global,
     options: &ReportOptions,
     rows: &RowOptions,
     records: SourceRecords<'_, F>,
-    sink: &mut S,
-) -> Result<(), ToolError>
-    requires { S.has_failed sink.old ≡ false }
-    ensures reported { OnOk result (IsPrintedOfFiles rows.now options.now
-        (sources_known F.bytes records.entry) (S.taken sink.old) (S.taken sink.new)) }
+) -> Result<Vec<u8>, ToolError>
+    ensures rows { IfOk result (λ text. AreOptions options.now
+        × PrintsFileRows rows.now options.now (sources_known F.bytes records.entry) text.items) }
     ensures still { OnOk result (All F.still records.entry.sources.now) }
-    ensures refused { IfErr result (λ fault. FilesRefused rows.now options.now
-        (sources_known F.bytes records.entry) (S.taken sink.old) (S.taken sink.new) fault) }
+    ensures refused { IfErr result
+        (StartRefused options.now (sources_known F.bytes records.entry)) }
     ensures bad_option { IfSome (bad_option options.now) (λ fault. result ≡ Err fault) }
-    ensures flushed { OnOk result (S.is_flushed sink.new ≡ true) }
-    ensures failed { S.has_failed sink.new ≡ failed_by result }
 {
     let (total, keys) = reported_of_files(rt, alloc, options, records)?;
-    write_printed(alloc, sink, total, rows, &keys)
+    Ok(printed_text(alloc, total, rows, &keys)?)
 }

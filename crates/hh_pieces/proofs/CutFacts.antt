@@ -29,7 +29,7 @@ at_end cfg zero = refl
 at_end cfg (suc n) = refl
 
 -- as many records as there are bytes after the first one are all
-runs-next : (cfg : Config) (s : State) (f : Fields) (p xs : List ℕ) (n : ℕ) → length xs ≤ n
+pub runs-next : (cfg : Config) (s : State) (f : Fields) (p xs : List ℕ) (n : ℕ) → length xs ≤ n
     → records_next (records_from cfg n) (next_record cfg s f p xs) ≡ runs cfg s f p xs
 unfolding next_record records_from runs
 runs-next cfg s f p [] n l = by (ends_at_end s)
@@ -279,7 +279,7 @@ module _ (quoting : Bool) (d : ℕ) where
       ∙ ap (state_after cut_cfg st.StartRecord) (strip-line rest) in
       ap (λ s. not (d == 10) && is_outside s) (behind ∙ sym alone) ∙ h
 
-no-records : (cfg : Config) → records cfg (strip_bom []) ≡ []
+pub no-records : (cfg : Config) → records cfg (strip_bom []) ≡ []
 unfolding strip_bom
 no-records cfg = at_end cfg 1
 

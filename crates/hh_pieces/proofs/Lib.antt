@@ -1,4 +1,4 @@
-pub mod ChunkFacts
+pub mod AlikeFacts
 pub mod ColumnFacts
 pub mod CutFacts
 pub mod CutTextFacts
@@ -6,9 +6,14 @@ pub mod FieldFacts
 pub mod FileFacts
 pub mod KnownFacts
 pub mod LineFacts
+pub mod LongFacts
 pub mod PieceFacts
 pub mod PlaceFacts
 pub mod QuoteFacts
 pub mod SourceFacts
 pub mod SpanFacts
 pub mod SplitFacts
+pub mod TakesFacts
+pub mod TextFacts
+pub mod TurnFacts
+pub mod WindowFacts

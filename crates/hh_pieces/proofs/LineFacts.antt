@@ -13,10 +13,10 @@ use Rattle.csv.specs.declared.parser.State.{State}
 use Rattle.csv.specs.declared.parser.State.TheVariants as st
 use Rattle.csv.specs.Records.{field_at}
 use Rattle.hh_records.specs.Formats.{Names, Part, byte_between, fields_by, is_whole_field, part_of, part_said, with_part}
-use Rattle.hh_records.specs.Layouts.{Places, by_columns, columns_among, configured, every, field_names, headed_parts, key_of, member_names, names_columns, parts_at, parts_by, places_in, rows_in, weight_at}
+use Rattle.hh_records.specs.Layouts.{Places, configured, every, key_of, parts_at, parts_by, rows_in, weight_at}
 use Rattle.hh_records.specs.declared.layout.Layout.{Layout}
 use Rattle.hh_records.proofs.FormatFacts.{with-whole}
-use Rattle.hh_pieces.specs.Pieces.{piece_parts}
+use Rattle.hh_pieces.specs.Pieces.{parts_in}
 use Rattle.hh_records.specs.declared.format.Format.{Format}
 use Rattle.hh_records.specs.declared.format.Format.TheVariants as format
 use Rattle.hh_pieces.specs.Laws.{UnquotedTextsAreSplit}
@@ -218,37 +218,18 @@ module _ (names : Names) where
     lines-cut f d (inl csv) lines = rw csv (map-map (parts_by None part) (line_fields d) lines)
     lines-cut f d (inr unquoted) lines = rw unquoted (map-map (parts_by None part) (line_fields d) lines)
 
--- ---- records that are read without columns
--- the records of a piece are the keys and the weights of its fields, by some names of members
-abbrev ReadsPairs : Layout → Option Places → List ℕ → Type 0
-ReadsPairs layout columns bytes = (names : Names)
-    × (piece_parts layout columns bytes
-    ≡ Some (map (λ r. parts_by None (part_said layout.part) (fields_by layout.format names r)) (rows_in layout bytes)))
-
--- those of a later piece
+-- records that are keys and weights, or keys alone, are read as these
 pub piece-pairs : (b : Bool) (layout : Layout) (at : Places) (bytes : List ℕ)
     → OnTrue b ((at.columns ≡ None) × (at.part ≡ part_said layout.part) × (at.format ≡ layout.format))
-    → OnTrue b (ReadsPairs layout (Some at) bytes)
+    → OnTrue b ((names : Names) × (parts_in layout at bytes
+    ≡ map (λ r. parts_by None (part_said layout.part) (fields_by layout.format names r)) (rows_in layout bytes)))
 piece-pairs false layout at bytes h = tt
 piece-pairs true layout at bytes h =
     let rows = rows_in layout bytes in (
       at.names,
-      ap (λ columns. Some (map (λ r. parts_by columns at.part (fields_by at.format at.names r)) rows)) h.0
-          ∙ ap (λ part. Some (map (λ r. parts_by None part (fields_by at.format at.names r)) rows)) h.1
-          ∙ ap (λ f. Some (map (λ r. parts_by None (part_said layout.part) (fields_by f at.names r)) rows)) h.2,
-    )
-
--- and those of a text without a header
-pub text-pairs : (b : Bool) (layout : Layout) (bytes : List ℕ)
-    → OnTrue b ((layout.has_header ≡ false) × (names_columns layout ≡ false))
-    → OnTrue b (ReadsPairs layout None bytes)
-text-pairs false layout bytes h = tt
-text-pairs true layout bytes h =
-    let rows = rows_in layout bytes in
-    let columns : columns_among layout (field_names layout []) ≡ Some None = rw h.1 refl in (
-      member_names layout,
-      ap (λ b. if b then headed_parts layout rows else option_map (λ at. map (parts_at at) rows) (places_in layout [])) h.0
-          ∙ ap (λ o. option_map (λ at. map (parts_at at) rows) (option_map (by_columns layout) o)) columns,
+      ap (λ columns. map (λ r. parts_by columns at.part (fields_by at.format at.names r)) rows) h.0
+          ∙ ap (λ part. map (λ r. parts_by None part (fields_by at.format at.names r)) rows) h.1
+          ∙ ap (λ f. map (λ r. parts_by None (part_said layout.part) (fields_by f at.names r)) rows) h.2,
     )
 
 -- ---- how lines are cut

@@ -1,6 +1,6 @@
 -- What pieces of texts read as, one after the other.
 use Rattle.std.proofs.Common.{◌≡◌, ◌≤◌, ◌+◌, ◌∷◌, ◌++◌, ◌∙◌, ℕ, List, [], length, map, Bool, true, false, Option, Some, None, Result, Ok, Err, refl, sym, ap, arith}
-use Rattle.std.specs.Prelude.{◌==◌, ⊤, IfSome, nat_le, option_map, option_and_then, if◌then◌else◌}
+use Rattle.std.specs.Prelude.{◌==◌, ⊤, nat_le, option_map, option_and_then, if◌then◌else◌}
 use Rattle.std.specs.List.{AllByRecursion, flat_map}
 use Rattle.std.proofs.lemmas.Bool.Decides.{nat_tests}
 use Rattle.std.proofs.lemmas.List.{map-append}
@@ -10,17 +10,14 @@ use Rattle.hh_stream.specs.Weights.{Bytes, Entry, max_key_len, max_total, total_
 use Rattle.hh_records.specs.declared.layout.Layout.{Layout}
 use Rattle.hh_faults.specs.declared.records.BadRecordCause.{BadRecordCause}
 use Rattle.hh_faults.specs.declared.records.BadRecordCause.TheVariants as cause
-use Rattle.hh_faults.specs.declared.records.TextError.{TextError}
-use Rattle.hh_faults.specs.declared.records.TextError.TheVariants as text
 use Rattle.hh_pieces.specs.Laws.{PiecesAreRead}
 use Rattle.hh_records.specs.Formats.{byte_between, has_quotes}
-use Rattle.hh_records.specs.Layouts.{OpenRefused, Places, RowsRefused, added, adding_next, adds, adds_instead, adds_itself, bad_key, config_of, counted_as, gathered, headed_parts, item_by, items_after, joined, names_columns, parts_at, places_in, text_parts, texts_parts, weight_by}
-use Rattle.hh_pieces.specs.Chunks.{Follows}
-use Rattle.hh_pieces.specs.Pieces.{InPieces, IsCut, IsInPieces, PieceRefused, all_pieces, first_piece, piece_parts, piece_reading, text_of, with_columns}
+use Rattle.hh_records.specs.Layouts.{Places, added, adding_next, adds, adds_instead, adds_itself, bad_key, counted_as, gathered, headed_parts, item_by, items_after, joined, parts_at, places_in, text_parts, texts_parts, weight_by}
+use Rattle.hh_pieces.specs.Pieces.{InPieces, IsInPieces, all_pieces, first_piece, piece_parts, piece_reading, text_of, with_columns}
 use Rattle.hh_records.specs.Layouts.{columns_of, first_of, rows_in}
 use Rattle.hh_records.specs.Streams.{Fields, Parts, Reading, item_of_key, item_of_pair, weight_after, weight_or_cause}
-use Rattle.hh_pieces.proofs.CutFacts.{parts-records, pieces-records}
-use Rattle.hh_records.proofs.OpenFacts.{map-nothing, map-twice, some-is}
+use Rattle.hh_pieces.proofs.CutFacts.{pieces-records}
+use Rattle.hh_records.proofs.OpenFacts.{map-nothing, map-twice}
 use Rattle.hh_records.proofs.ReadFacts.{items-more, ok-eq}
 
 -- ---- records after another total
@@ -183,60 +180,6 @@ items-move layout n m t u (p ∷ ps) xs e l =
     by (Ok es) is e later = go es (items_after layout (n + 1) (t + total_of es) ps) refl e is later
     by (Err x) is e later = cc e
 
--- what a piece reads as, by what its records add after a total of t
-module _ (layout : Layout) (columns : Option Places) (bytes : List ℕ) where
-  pub piece-none : (ps : List Parts) → ◌≡◌ {A = Option (List Parts)} (Some []) (Some ps)
-      → piece_parts layout columns bytes ≡ Some ps → piece_reading layout columns bytes ≡ Some (Ok [])
-  unfolding items_after
-  piece-none ps left e = ap (option_map (items_after layout 1 0)) (e ∙ sym left)
-
-  pub piece-some : (t : ℕ) (xs : List Entry) (ps : List Parts) → piece_parts layout columns bytes ≡ Some ps
-      → items_after layout 1 t ps ≡ Ok xs → total_of xs ≤ max_total
-      → piece_reading layout columns bytes ≡ Some (Ok xs)
-  piece-some t xs ps e h l =
-      ap (option_map (items_after layout 1 0)) e
-      ∙ ap Some (items-move layout 1 1 t 0 ps xs h (omega (arith, l)))
-
--- the same of a reader's bytes, where they are known
-module _ (layout : Layout) (columns : Option Places) where
-  pub left-none : (bytes : Option (List ℕ))
-      → IfSome (option_map (piece_parts layout columns) bytes)
-      (λ known. (ps : List Parts) × (◌≡◌ {A = Option (List Parts)} (Some []) (Some ps)) × (known ≡ Some ps))
-      → IfSome bytes (λ bytes. piece_reading layout columns bytes ≡ Some (Ok []))
-  left-none None h = tt
-  left-none (Some bytes) (ps, left, e) = piece-none layout columns bytes ps left e
-
-  pub left-some : (t before after : ℕ) (xs : List Entry) (bytes : Option (List ℕ)) (left : Option (List Parts))
-      → IfSome (option_map (piece_parts layout columns) bytes)
-      (λ known. (ps : List Parts) × (left ≡ Some ps) × (known ≡ Some ps))
-      → IfSome left (λ ps. (items_after layout 1 t ps ≡ Ok xs) × (after ≡ before + length ps))
-      → total_of xs ≤ max_total → IfSome bytes (λ bytes. piece_reading layout columns bytes ≡ Some (Ok xs))
-  left-some t before after xs None left h items l = tt
-  left-some t before after xs (Some bytes) left (ps, is, e) items l =
-      let added = rw is at items in piece-some layout columns bytes t xs ps e added.0 l
-
-  -- what a refusal to open a piece tells
-  pub open-refused : (bytes : Option (List ℕ)) (t : ℕ) (error : TextError)
-      → OpenRefused (names_columns layout) (option_map (piece_parts layout columns) bytes) error
-      → IfSome bytes (λ bytes. PieceRefused layout columns bytes t error)
-  open-refused None t error h = tt
-  open-refused (Some bytes) t text.ReadFault h = tt
-  open-refused (Some bytes) t text.NoColumn h = h
-  open-refused (Some bytes) t (text.BadRecord n c) h = absurd h
-  open-refused (Some bytes) t text.Memory h = tt
-
-  -- and one to read the records of an open one
-  pub rows-refused : (bytes : Option (List ℕ)) (t : ℕ) (left : Option (List Parts)) (error : TextError)
-      → IfSome (option_map (piece_parts layout columns) bytes)
-      (λ known. (ps : List Parts) × (left ≡ Some ps) × (known ≡ Some ps))
-      → RowsRefused layout 0 t left error → IfSome bytes (λ bytes. PieceRefused layout columns bytes t error)
-  rows-refused None t left error h refused = tt
-  rows-refused (Some bytes) t left text.ReadFault h refused = tt
-  rows-refused (Some bytes) t left text.NoColumn h refused = absurd refused
-  rows-refused (Some bytes) t left (text.BadRecord n c) (ps, is, e) refused =
-      rw e (ap Some (rw is at refused))
-  rows-refused (Some bytes) t left text.Memory h refused = tt
-
 -- ---- the records of pieces
 module _ {A B : Type 0} (f : A → Option (List B)) where
   gathered-append : (xs ys : List A)
@@ -287,23 +230,6 @@ module _ (layout : Layout) where
         rw e refl,
         λ more. rw (e, map-append (parts_at at) rows more) refl,
       )
-
-  -- the records of a text that is cut are those of a part and, by the columns that follow it, of the rest
-  pub parts-more : (columns : Option Places) (at : Places) (a b : List ℕ) (ps : List Parts) → IsCut (config_of layout) a b
-      → Follows layout columns at a → piece_parts layout columns a ≡ Some ps
-      → piece_parts layout columns (a ++ b) ≡ Some (ps ++ map (parts_at at) (rows_in layout b))
-  unfolding parts_in
-  parts-more None at a b ps cut follows e =
-      let (qs, first, more) = rows-more (rows_in layout a) at follows in
-      let same : qs ≡ ps = some-is (sym first ∙ e) in
-      ap parts_in (parts-records (has_quotes layout.format) (byte_between layout.format layout.delimiter) a b cut)
-      ∙ more (rows_in layout b)
-      ∙ ap (λ (l : List Parts). Some (l ++ map (parts_at at) (rows_in layout b))) same
-  parts-more (Some columns) at a b ps cut follows e =
-      ap (λ (rows : List Fields). Some (map (parts_at columns) rows)) (parts-records (has_quotes layout.format) (byte_between layout.format layout.delimiter) a b cut)
-      ∙ ap Some (map-append (parts_at columns) (rows_in layout a) (rows_in layout b))
-      ∙ ap (λ (l : List Parts). Some (l ++ map (parts_at columns) (rows_in layout b))) (some-is e)
-      ∙ ap (λ (c : Places). Some (ps ++ map (parts_at c) (rows_in layout b))) (sym follows)
 
   no-parts : (at : Places) → columns_of layout [] ≡ Some at → parts_in [] ≡ Some []
   unfolding parts_in

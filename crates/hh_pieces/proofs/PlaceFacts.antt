@@ -50,9 +50,6 @@ at-if : (b : Bool) (p1 p2 : QuoteState) (q1 q2 : State × Action) → At p1 q1 �
 at-if true p1 p2 q1 q2 h k = h
 at-if false p1 p2 q1 q2 h k = k
 
-at-place : (p r : QuoteState) (q : State × Action) → p ≡ r → At r q → At p q
-at-place p r q e h = subst (λ x. At x q) (sym e) h
-
 at-end : (c : ℕ) → At place.Start (after_end term.CRLF c, act.EndRecord)
 unfolding At
 at-end c = by (c == 13)

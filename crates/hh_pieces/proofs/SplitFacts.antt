@@ -207,7 +207,7 @@ module _ (text : List ℕ) (from end : ℕ) (is : end ≡ line_end text from) wh
       ap (λ n. slice_range alone 0 n) size ∙ rest-all alone 0
 
 -- ---- the lines read so far
-module _ (layout : Layout) (read : List ℕ → Parts) (t : ℕ) (text : List ℕ) where
+module _ (layout : Layout) (read : List ℕ → Parts) (before t : ℕ) (text : List ℕ) where
   abbrev parts : List (List ℕ) → List Parts
   parts lines = map read lines
 
@@ -215,12 +215,12 @@ module _ (layout : Layout) (read : List ℕ → Parts) (t : ℕ) (text : List �
   pub record LinesRead (from : ℕ) (xs : List Entry) (number : ℕ) : Type 0 where
     pub lines : List (List ℕ)
     pub all : filled_lines text ≡ lines ++ filled_lines (drop from text)
-    pub items : items_after layout 1 t (parts lines) ≡ Ok xs
-    pub count : length lines ≡ number
+    pub items : items_after layout (before + 1) t (parts lines) ≡ Ok xs
+    pub count : before + length lines ≡ number
 
-  pub lines-none : LinesRead 0 [] 0
+  pub lines-none : LinesRead 0 [] before
   unfolding items_after
-  lines-none = record { lines = []; all = refl; items = refl; count = refl }
+  lines-none = record { lines = []; all = refl; items = refl; count = omega arith }
 
   module _ (from end : ℕ) (xs : List Entry) (number : ℕ) (order : from ≤ end) (within : end ≤ length text)
       (is : end ≡ line_end text from) (so_far : LinesRead from xs number) where
@@ -253,7 +253,7 @@ module _ (layout : Layout) (read : List ℕ → Parts) (t : ℕ) (text : List �
           all = all-lines some ∙ sym (append_assoc so_far.lines (line ∷ []) (filled_lines (drop (end + 1) text)));
           items = rw (
             all,
-            items-more layout 1 t xs (parts so_far.lines) (read line ∷ []) so_far.items,
+            items-more layout (before + 1) t xs (parts so_far.lines) (read line ∷ []) so_far.items,
             j,
             append-nil es,
           ) refl;
@@ -261,7 +261,7 @@ module _ (layout : Layout) (read : List ℕ → Parts) (t : ℕ) (text : List �
         }
 
     pub lines-refused : from < end → (x : TextError) → RecordRefused (number + 1) (adds layout (t + total_of xs) (read line)) x
-        → RowsRefused layout 0 t (Some (parts (filled_lines text))) x
+        → RowsRefused layout before t (Some (parts (filled_lines text))) x
     unfolding items_after
     lines-refused some error.Memory j = tt
     lines-refused some (error.BadRecord l x) (same, j) =
@@ -269,12 +269,12 @@ module _ (layout : Layout) (read : List ℕ → Parts) (t : ℕ) (text : List �
         let all : parts (so_far.lines ++ line ∷ left) ≡ parts so_far.lines ++ read line ∷ parts left =
         map-append read so_far.lines (line ∷ left) in
         let size = length-map so_far.lines read in
-        let place : 1 + length (parts so_far.lines) ≡ number + 1 = omega (arith, size, so_far.count) in
+        let place : before + 1 + length (parts so_far.lines) ≡ number + 1 = omega (arith, size, so_far.count) in
         rw (
           same,
           all-lines some,
           all,
-          items-more layout 1 t xs (parts so_far.lines) (read line ∷ parts left) so_far.items,
+          items-more layout (before + 1) t xs (parts so_far.lines) (read line ∷ parts left) so_far.items,
           j,
           place,
         ) refl

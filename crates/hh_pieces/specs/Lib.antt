@@ -1,10 +1,11 @@
-pub mod Chunks
 pub mod CutFiles
 pub mod CutTexts
 pub mod Files
 pub mod Laws
 pub mod Lines
+pub mod LongRecords
 pub mod Pieces
 pub mod Quotes
 pub mod Sources
+pub mod Texts
 pub mod Windows

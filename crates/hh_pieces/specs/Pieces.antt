@@ -1,5 +1,5 @@
 -- Texts of records in pieces, which are cut before line feeds.
-use Rattle.std.specs.Prelude.{◌≡◌, ◌==◌, ◌&&◌, ◌<◌, ◌≤◌, ℕ, Bool, true, false, List, [], ◌∷◌, fold, length, map, take, drop, not, Option, Some, None, option_map, Err, ⊤}
+use Rattle.std.specs.Prelude.{◌≡◌, ◌+◌, ◌==◌, ◌&&◌, ◌<◌, ◌≤◌, ℕ, Bool, true, false, List, [], ◌∷◌, fold, length, map, take, drop, not, Option, Some, None, option_map, Ok, ⊤}
 use Rattle.std.specs.List.{AllByRecursion, flat_map}
 use Rattle.csv.specs.Machine.{line_feed, step}
 use Rattle.csv.specs.Reading.{strip_bom}
@@ -8,13 +8,12 @@ use Rattle.csv.specs.declared.parser.Config.{Config}
 use Rattle.csv.specs.declared.parser.State.{State}
 use Rattle.csv.specs.declared.parser.State.TheVariants as st
 use Rattle.hh_stream.specs.Cuttings.{whole_of}
+use Rattle.hh_stream.specs.Weights.{Entry}
 use Rattle.hh_records.specs.Formats.{byte_between, has_quotes}
-use Rattle.hh_records.specs.Layouts.{Places, columns_of, config_of, configured, delimited, items_after, names_columns, parts_at, rows_in, text_parts}
+use Rattle.hh_records.specs.Layouts.{Places, columns_of, config_of, configured, delimited, items_after, parts_at, rows_in, text_parts}
 use Rattle.hh_records.specs.Streams.{Parts, Reading}
 use Rattle.hh_records.specs.declared.format.Format.{Format}
 use Rattle.hh_records.specs.declared.layout.Layout.{Layout}
-use Rattle.hh_faults.specs.declared.records.TextError.{TextError}
-use Rattle.hh_faults.specs.declared.records.TextError.TheVariants as text
 
 -- ---- where a text may be cut
 -- the state of csv's machine after these bytes
@@ -85,14 +84,16 @@ abbrev pub piece_reading : Layout → Option Places → List ℕ → Option Read
 piece_reading layout columns bytes =
     option_map (items_after layout 1 0) (piece_parts layout columns bytes)
 
--- what a refusal to read a piece tells, where it is read after a total of t
-abbrev pub PieceRefused : Layout → Option Places → List ℕ → ℕ → TextError → Type 0
-PieceRefused layout columns bytes t text.ReadFault = ⊤
-PieceRefused layout columns bytes t text.NoColumn =
-    (names_columns layout ≡ true) × (piece_parts layout columns bytes ≡ None)
-PieceRefused layout columns bytes t (text.BadRecord n c) =
-    option_map (items_after layout 1 t) (piece_parts layout columns bytes) ≡ Some (Err (n, c))
-PieceRefused layout columns bytes t text.Memory = ⊤
+-- the records of some bytes, each as its key and its weight's field
+abbrev pub parts_in : Layout → Places → List ℕ → List Parts
+parts_in layout at bytes = map (parts_at at) (rows_in layout bytes)
+
+-- the records of a piece add these items after a total of t and so many others, with which they are
+-- this many
+abbrev pub PieceAdds : Layout → Places → ℕ → ℕ → List ℕ → List Entry → ℕ → Type 0
+PieceAdds layout at before t bytes xs after =
+    (items_after layout (before + 1) t (parts_in layout at bytes) ≡ Ok xs)
+    × (after ≡ before + length (parts_in layout at bytes))
 
 -- ---- texts in pieces
 -- a text in pieces, and the columns that its first piece chooses

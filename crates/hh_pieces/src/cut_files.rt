@@ -8,11 +8,12 @@ ghost use Rattle.hh_stream.specs.Taking.{Takes};
 ghost use Rattle.hh_records.specs.Layouts.{every};
 ghost use Rattle.hh_pieces.specs.Pieces.{begins_with_feed};
 
-use crate::chunks::{MOST_HELD, feed_left};
+use crate::feeding::feed_left;
 use crate::laws::{feeds_outside_quotes_are_cuts, pieces_are_read};
 use crate::pieces::Columns;
 use crate::read_at::{ReadAt, read_between};
-use crate::window::zeros;
+use crate::texts::choose_columns;
+use crate::window::{Window, zeros};
 use hh_faults::TextError;
 use hh_records::Layout;
 use hh_stream::{PieceFault, TakeItems};
@@ -77,7 +78,7 @@ const READ_LEN: usize = 65_536;
 
 // How many reads look for a line feed after a place. If none finds one, the rest of the source is
 // one piece.
-const MOST_READS: usize = MOST_HELD / READ_LEN;
+const MOST_READS: usize = 16;
 
 /// Finds the first line feed at or after `from`, in at most [`MOST_READS`] reads of `source` into
 /// `buffer`. It gives `None` if they show none, the source ends before one, or a read fails.
@@ -183,11 +184,12 @@ fn add_source<S: ReadAt>(
     let Some((first, later)) = spans.split_first() else {
         return Ok(false);
     };
-    let reader = read_between(source, first.from, first.to);
-    let columns = match Columns::of_reader(alloc, layout, reader) {
-        Ok(Some(columns)) => columns,
+    let mut reader = read_between(source, first.from, first.to);
+    let mut window = Window::new(alloc, READ_LEN)?;
+    let columns = match choose_columns(alloc, &mut window, &mut reader, layout) {
+        Ok((Some(columns), _)) => columns,
         Err(TextError::Memory) => return Err(AllocError),
-        Ok(None) | Err(_) => return Ok(false),
+        Ok((None, _)) | Err(_) => return Ok(false),
     };
     pieces.push(FilePiece {
         source: number,

@@ -2,7 +2,7 @@
 //! its fields are what stands between separators.
 
 ghost use Rattle.std.specs.Bool.{OnTrue};
-ghost use Rattle.std.specs.Prelude.{◌≡◌, ◌≤◌, IfErr, OnOk, Ok, Some, length, map, option_map, slice_range, true};
+ghost use Rattle.std.specs.Prelude.{◌≡◌, ◌≤◌, ◌+◌, IfErr, IfOk, OnOk, Ok, Some, length, map, option_map, slice_range, true};
 ghost use Rattle.hh_stream.specs.Weights.{max_total};
 ghost use Rattle.hh_stream.specs.Taking.{Takes};
 ghost use Rattle.hh_records.specs.Formats.{part_said};
@@ -136,31 +136,37 @@ fn parts_from(
     (parts, end)
 }
 
-/// Hands on what each line of a text adds, blank ones aside, and counts those that are `bad`. `cut`
-/// says how a line is cut; of its key the part of `layout` counts.
+/// Hands on what each line of a text adds, blank ones aside, and counts all records, with the number
+/// of those `before`, and those that are `bad`. `cut` says how a line is cut; of its key the part of
+/// `layout` counts.
 pub(crate) fn read_lines<T: TakeItems>(
     alloc: Global,
     text: &[u8],
     cut: LineCut,
+    before: u64,
     taker: &mut T,
     bad: &mut u64,
     layout: &Layout,
-) -> Result<(), TextError>
+) -> Result<u64, TextError>
     requires apart { CutsWithin cut }
     requires bounded { T.weight_taken taker.old ≤ max_total }
-    ensures items { OnOk result
-        (Takes T.with_item T.weight_taken taker.old taker.new (λ xs.
-        items_after layout.now 1 (T.weight_taken taker.old)
-        (map (line_parts (part_said layout.now.part) cut) (filled_lines text.now)) ≡ Ok xs)) }
+    ensures items { IfOk result (λ after.
+        Takes T.with_item T.weight_taken taker.old taker.new (λ xs.
+        (items_after layout.now (before + 1) (T.weight_taken taker.old)
+        (map (line_parts (part_said layout.now.part) cut) (filled_lines text.now)) ≡ Ok xs)
+        × (after ≡ before + length (filled_lines text.now)))) }
     ensures bounded { OnOk result (T.weight_taken taker.new ≤ max_total) }
     ensures refused { IfErr result (λ error.
-        RowsRefused layout.now 0 (T.weight_taken taker.old)
+        RowsRefused layout.now before (T.weight_taken taker.old)
         (Some (map (line_parts (part_said layout.now.part) cut) (filled_lines text.now))) error) }
 {
     let has_no_return = has_no_return(text);
     let is_whole = layout.part.is_whole();
+    if before > u64::MAX - text.len() as u64 {
+        return Err(TextError::ReadFault);
+    }
     let mut from = 0;
-    let mut number = 0;
+    let mut number = before;
     while from < text.len() {
         let (parts, end) = parts_from(text, from, cut, has_no_return);
         if from < end {
@@ -170,5 +176,5 @@ pub(crate) fn read_lines<T: TakeItems>(
         }
         from = end + 1;
     }
-    Ok(())
+    Ok(number)
 }

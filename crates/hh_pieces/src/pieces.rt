@@ -1,28 +1,28 @@
 //! Pieces of a text of records, each of which is read by itself.
 
 ghost use Rattle.std.specs.Bool.{OnTrue};
-ghost use Rattle.std.specs.Prelude.{◌≡◌, ◌≤◌, ◌∷◌, ℕ, List, [], None, Ok, Some, false, true, map, IfOk, IfErr, IfSome, OnOk, option_and_then, option_map};
+ghost use Rattle.std.specs.Prelude.{◌≡◌, ◌≤◌, ◌∷◌, ℕ, List, [], None, Ok, Some, true, map, IfOk, IfErr, IfSome, OnOk};
+ghost use Rattle.csv.specs.Records.{fields_of};
 ghost use Rattle.hh_stream.specs.Weights.{max_total};
 ghost use Rattle.hh_stream.specs.Taking.{Takes};
-ghost use Rattle.hh_records.specs.Layouts.{IsText, OpenRefused, Opens, Places, chosen_places};
-ghost use Rattle.hh_records.specs.Layouts.{names_columns, parts_at, parts_by, parts_left, text_parts};
+ghost use Rattle.hh_records.specs.Layouts.{ColumnsRefused, RecordRefused, RowsRefused};
+ghost use Rattle.hh_records.specs.Layouts.{adds, chosen_columns, parts_at, parts_by, places_in, rows_in};
 ghost use Rattle.hh_records.specs.Formats.{Names, Part, byte_between, fields_by, part_said};
-ghost use Rattle.hh_records.specs.Layouts.{chosen_columns};
+ghost use Rattle.hh_records.specs.Streams.{Fields};
 ghost use Rattle.hh_pieces.specs.Lines as spec;
 ghost use Rattle.hh_pieces.specs.Lines.{CutsWithin, filled_lines, line_parts};
-ghost use Rattle.hh_pieces.specs.Pieces.{PieceRefused, piece_parts, piece_reading};
-ghost use Rattle.hh_records.specs.Layouts.{FindsColumns, rows_in};
+ghost use Rattle.hh_pieces.specs.LongRecords.{kept_of};
+ghost use Rattle.hh_pieces.specs.Pieces.{PieceAdds, parts_in};
 
 use crate::cuts::mark_len;
 use crate::key_parts::is_same_part;
 use crate::lines::{FieldPlaces, LineCut, cut_of, is_separator, read_lines, sees_no_quote};
-use csv::ReaderBuilder;
+use crate::long_record::Limits;
+use csv::ByteRecord;
 use hh_faults::TextError;
-use hh_records::retrying::Retrying;
-use hh_records::{ChosenLayout, Format, Layout, Text, open, read_rows};
+use hh_records::{ChosenLayout, Format, Layout, Room, choose, read_rows, take_row};
 use hh_stream::TakeItems;
 use std::alloc::{AllocError, Global};
-use std::io::Read;
 use std::marker::Model;
 
 /// How the records of a text are read by a layout: by the columns that it chooses in the text, by
@@ -49,86 +49,52 @@ impl Columns {
         Ok(Columns { chosen })
     }
 
-    /// The columns of a text that begins with this piece. There are none where the layout has a
-    /// header and the piece has no record for it.
-    pub fn of_text(
+    // The columns that this header has, of a text that is read by a layout.
+    pub(crate) fn by_header(
         alloc: Global,
         layout: &Layout,
-        first: &[u8],
-    ) -> Result<Option<Columns>, TextError>
+        header: &ByteRecord,
+    ) -> Result<Columns, TextError>
         ensures columns { IfOk result (λ columns.
-            FindsColumns layout.now (rows_in layout.now first.now) columns) }
-        ensures refused { IfErr result (λ error.
-            OpenRefused (names_columns layout.now)
-            (Some (text_parts layout.now first.now)) error) }
+            places_in layout.now (fields_of header.now) ≡ Some columns) }
+        ensures refused { IfErr result
+            (ColumnsRefused layout.now (places_in layout.now (fields_of header.now))) }
     {
-        Columns::of_reader(alloc, layout, first)
+        let chosen = choose(alloc, layout, header)?;
+        Ok(Columns { chosen })
     }
 
-    // The columns of a text that begins with what a reader has left.
-    pub(crate) fn of_reader<R: Read + Drop>(
-        alloc: Global,
+    // How much is kept of a record that they read, whose weight has at most so many `decimals`.
+    pub(crate) fn limits(&self, decimals: u8) -> Limits
+        ensures { (layout : Layout) (t : ℕ) (fs : Fields) → layout.decimals ≡ decimals
+            → adds layout t (parts_at self.now (kept_of result fs))
+            ≡ adds layout t (parts_at self.now fs) }
+    {
+        Limits::of(&self.chosen, decimals)
+    }
+
+    // Hands on what the record adds that has these fields and this `number`, and counts it where it
+    // is `bad` and counts as the key of the layout.
+    pub(crate) fn take_row<T: TakeItems>(
+        &self,
+        taker: &mut T,
+        room: &mut Room,
+        row: &ByteRecord,
+        number: u64,
+        bad: &mut u64,
         layout: &Layout,
-        first: R,
-    ) -> Result<Option<Columns>, TextError>
-        ensures columns { IfOk result (λ columns. IfSome (R.remaining first) (λ bytes.
-            FindsColumns layout.now (rows_in layout.now bytes) columns)) }
-        ensures refused { IfErr result (λ error.
-            OpenRefused (names_columns layout.now)
-            (option_map (text_parts layout.now) (R.remaining first)) error) }
+    ) -> Result<(), TextError>
+        requires bounded { T.weight_taken taker.old ≤ max_total }
+        ensures taken { OnOk result
+            (Takes T.with_item T.weight_taken taker.old taker.new (λ xs.
+            adds layout.now (T.weight_taken taker.old) (parts_at self.now (fields_of row.now))
+            ≡ Ok xs)) }
+        ensures bounded { OnOk result (T.weight_taken taker.new ≤ max_total) }
+        ensures refused { IfErr result (RecordRefused number
+            (adds layout.now (T.weight_taken taker.old)
+            (parts_at self.now (fields_of row.now)))) }
     {
-        match open(alloc, first, layout)? {
-            None => Ok(None),
-            Some(text) => {
-                let Text { rows: _, chosen } = text;
-                Ok(Some(Columns { chosen }))
-            }
-        }
-    }
-}
-
-/// A later piece of a text, whose records are to be read by the columns of the text.
-fn open_later<R: Read + Drop>(
-    alloc: Global,
-    layout: &Layout,
-    columns: &Columns,
-    piece: R,
-) -> Result<Text<R>, AllocError>
-    ensures text { IfOk result IsText }
-    ensures opened { IfOk result (λ text. parts_left R.remaining text
-        ≡ option_and_then (piece_parts layout.now (Some columns.now)) (R.remaining piece)) }
-{
-    let chosen = columns.chosen.copy(alloc)?;
-    let rows = ReaderBuilder::new()
-        .delimiter(layout.format.byte_between(layout.delimiter))
-        .quoting(layout.format.has_quotes())
-        .has_headers(false)
-        .flexible(true)
-        .from_reader(alloc, Retrying::new(piece));
-    Ok(Text { rows, chosen })
-}
-
-/// A piece of a text whose records are to be read: the first one, with no columns, as a text.
-fn open_piece<R: Read + Drop>(
-    alloc: Global,
-    layout: &Layout,
-    columns: Option<&Columns>,
-    piece: R,
-) -> Result<Option<Text<R>>, TextError>
-    ensures text { IfOk result (λ text. IfSome text IsText) }
-    ensures opened { IfOk result (Opens R.remaining
-        (option_map (piece_parts layout.now (option_map (λ c. c.now) columns.entry))
-        (R.remaining piece))) }
-    ensures refused { IfErr result (λ error. OpenRefused (names_columns layout.now)
-        (option_map (piece_parts layout.now (option_map (λ c. c.now) columns.entry))
-        (R.remaining piece)) error) }
-{
-    let Some(columns) = columns else {
-        return open(alloc, piece, layout);
-    };
-    match open_later(alloc, layout, columns, piece) {
-        Ok(text) => Ok(Some(text)),
-        Err(AllocError) => Err(TextError::Memory),
+        take_row(taker, room, row, &self.chosen, number, bad, layout)
     }
 }
 
@@ -149,26 +115,14 @@ fn chooses_no_columns(chosen: &ChosenLayout, layout: &Layout) -> bool
     chosen.columns.is_none() && is_chosen_for(chosen, layout)
 }
 
-/// Whether the records of a text that `layout` reads, from the first one on, are keys and weights,
-/// or keys alone.
-fn names_no_columns(layout: &Layout) -> bool
-    ensures { OnTrue result ((layout.now.has_header ≡ false)
-        × (names_columns layout.now ≡ false)) }
-{
-    !layout.has_header && layout.key.is_empty() && layout.weight.is_none()
-}
-
-/// Whether the records of a piece of a text are keys and weights, or keys alone.
-fn has_pairs(layout: &Layout, columns: Option<&Columns>) -> bool
+/// Whether the records that `columns` read are keys and weights, or keys alone.
+fn has_pairs(layout: &Layout, columns: &Columns) -> bool
     ensures { (bytes : List ℕ) → OnTrue result ((names : Names)
-        × (piece_parts layout.now (option_map (λ c. c.now) columns.entry) bytes
-        ≡ Some (map (λ r. parts_by None (part_said layout.now.part)
-        (fields_by layout.now.format names r)) (rows_in layout.now bytes)))) }
+        × (parts_in layout.now columns.now bytes
+        ≡ map (λ r. parts_by None (part_said layout.now.part)
+        (fields_by layout.now.format names r)) (rows_in layout.now bytes))) }
 {
-    match columns {
-        Some(columns) => chooses_no_columns(&columns.chosen, layout),
-        None => names_no_columns(layout),
-    }
+    chooses_no_columns(&columns.chosen, layout)
 }
 
 /// Whether `csv` cuts a text of this layout, but for its quotes, into lines, and these at each
@@ -226,15 +180,15 @@ fn column_cut(layout: &Layout, columns: &Columns) -> Option<LineCut>
 }
 
 /// How the lines of a piece are cut, where `csv` cuts it into lines but for its quotes.
-fn line_cut(layout: &Layout, columns: Option<&Columns>) -> Option<LineCut>
+fn line_cut(layout: &Layout, columns: &Columns) -> Option<LineCut>
     ensures separated { IfSome result (λ _.
         spec.is_separator (byte_between layout.now.format layout.now.delimiter) ≡ true) }
     ensures apart { IfSome result CutsWithin }
     ensures parts { IfSome result (λ cut. (bytes : List ℕ) (lines : List (List ℕ)) →
         rows_in layout.now bytes
         ≡ map (spec.line_fields (byte_between layout.now.format layout.now.delimiter)) lines
-        → piece_parts layout.now (option_map (λ c. c.now) columns.entry) bytes
-        ≡ Some (map (line_parts (part_said layout.now.part) cut) lines)) }
+        → parts_in layout.now columns.now bytes
+        ≡ map (line_parts (part_said layout.now.part) cut) lines) }
 {
     if !has_plain_lines(layout) {
         return None;
@@ -242,23 +196,19 @@ fn line_cut(layout: &Layout, columns: Option<&Columns>) -> Option<LineCut>
     if has_pairs(layout, columns) {
         return Some(cut_of(layout.format, layout.delimiter));
     }
-    match columns {
-        Some(columns) => column_cut(layout, columns),
-        None => None,
-    }
+    column_cut(layout, columns)
 }
 
 /// What stands after a byte order mark, and how its lines are cut, where a piece of a text can be
 /// read line by line.
 fn plain_text<'t>(
     layout: &Layout,
-    columns: Option<&Columns>,
+    columns: &Columns,
     piece: &'t [u8],
 ) -> Option<(&'t [u8], LineCut)>
     ensures apart { IfSome result (λ text. CutsWithin text.1) }
-    ensures parts { IfSome result (λ text.
-        piece_parts layout.now (option_map (λ c. c.now) columns.entry) piece.now
-        ≡ Some (map (line_parts (part_said layout.now.part) text.1) (filled_lines text.0.now))) }
+    ensures parts { IfSome result (λ text. parts_in layout.now columns.now piece.now
+        ≡ map (line_parts (part_said layout.now.part) text.1) (filled_lines text.0.now)) }
 {
     let Some(cut) = line_cut(layout, columns) else {
         return None;
@@ -272,88 +222,29 @@ fn plain_text<'t>(
     }
 }
 
-/// What stands after a byte order mark, and how its lines are cut, where a piece of a text can be
-/// read line by line: a first piece with no header by the columns that the layout names by number.
-fn piece_lines<'t>(
+/// Hands on what the records of a piece of a text add, which are whole, by its `columns`, and counts
+/// all records, with the number of those `before`, and those that are `bad` and count as the key of
+/// the layout. They are read line by line or, where that can't be, by `csv`.
+pub(crate) fn read_piece<T: TakeItems>(
     alloc: Global,
     layout: &Layout,
-    columns: Option<&Columns>,
-    piece: &'t [u8],
-) -> Result<Option<(&'t [u8], LineCut)>, TextError>
-    ensures apart { IfOk result (λ found. IfSome found (λ text. CutsWithin text.1)) }
-    ensures parts { IfOk result (λ found. IfSome found (λ text.
-        piece_parts layout.now (option_map (λ c. c.now) columns.entry) piece.now
-        ≡ Some (map (line_parts (part_said layout.now.part) text.1) (filled_lines text.0.now)))) }
-    ensures refused { IfErr result (λ error. (total : ℕ) →
-        PieceRefused layout.now (option_map (λ c. c.now) columns.entry) piece.now total error) }
-{
-    if columns.is_some() || layout.has_header || names_no_columns(layout) {
-        return Ok(plain_text(layout, columns, piece));
-    }
-    match Columns::of_text(alloc, layout, piece) {
-        Ok(Some(own)) => Ok(plain_text(layout, Some(&own), piece)),
-        Ok(None) => Ok(None),
-        Err(error) => Err(error),
-    }
-}
-
-/// Hands on what the records of one piece of a text add. The first piece of a text is read with no
-/// columns: its header, where the layout has one, chooses them. Each later piece is read by the
-/// columns that the first one chose ([`Columns::of_text`]), and has no header.
-///
-/// Records are those of [`read_records`](crate::read_records), and they are numbered from 1 in each
-/// piece. The first that fails a test, or that the taker has no memory for, ends the reading. Those
-/// that count as the key of the layout are counted in `bad`.
-pub fn read_piece<T: TakeItems>(
-    alloc: Global,
-    layout: &Layout,
-    columns: Option<&Columns>,
+    columns: &Columns,
     piece: &[u8],
+    before: u64,
     bad: &mut u64,
     taker: &mut T,
-) -> Result<(), TextError>
-    ensures items { OnOk result
-        (Takes T.with_item T.weight_taken taker.old taker.new (λ xs.
-        piece_reading layout.now (option_map (λ c. c.now) columns.entry) piece.now
-        ≡ Some (Ok xs))) }
+) -> Result<u64, TextError>
+    requires bounded { T.weight_taken taker.old ≤ max_total }
+    ensures items { IfOk result (λ after.
+        Takes T.with_item T.weight_taken taker.old taker.new (λ xs.
+        PieceAdds layout.now columns.now before (T.weight_taken taker.old) piece.now xs after)) }
     ensures bounded { OnOk result (T.weight_taken taker.new ≤ max_total) }
-    ensures refused { IfErr result (λ error.
-        PieceRefused layout.now (option_map (λ c. c.now) columns.entry) piece.now
-        (T.weight_taken taker.old) error) }
+    ensures refused { IfErr result (λ error. RowsRefused layout.now before
+        (T.weight_taken taker.old) (Some (parts_in layout.now columns.now piece.now)) error) }
 {
-    // What was taken before is in range, as this call's clause says.
-    let _ = taker.total();
-    if let Some((text, cut)) = piece_lines(alloc, layout, columns, piece)? {
-        read_lines(alloc, text, cut, taker, bad, layout)?;
-        return Ok(());
-    }
-    read_left(alloc, layout, columns, piece, bad, taker)
-}
-
-/// Hands on the items of what a reader has left, and counts those of `bad` records.
-pub(crate) fn read_left<R: Read + Drop, T: TakeItems>(
-    alloc: Global,
-    layout: &Layout,
-    columns: Option<&Columns>,
-    piece: R,
-    bad: &mut u64,
-    taker: &mut T,
-) -> Result<(), TextError>
-    ensures items { OnOk result
-        (Takes T.with_item T.weight_taken taker.old taker.new (λ xs.
-        IfSome (R.remaining piece) (λ bytes.
-        piece_reading layout.now (option_map (λ c. c.now) columns.entry) bytes
-        ≡ Some (Ok xs)))) }
-    ensures bounded { OnOk result (T.weight_taken taker.new ≤ max_total) }
-    ensures refused { IfErr result (λ error. IfSome (R.remaining piece) (λ bytes.
-        PieceRefused layout.now (option_map (λ c. c.now) columns.entry) bytes
-        (T.weight_taken taker.old) error)) }
-{
-    // What was taken before is in range, as this call's clause says.
-    let _ = taker.total();
-    let Some(text) = open_piece(alloc, layout, columns, piece)? else {
-        return Ok(());
+    let after = match plain_text(layout, columns, piece) {
+        Some((text, cut)) => read_lines(alloc, text, cut, before, taker, bad, layout)?,
+        None => read_rows(alloc, piece, &columns.chosen, before, taker, bad, layout)?,
     };
-    read_rows(alloc, text, 0, taker, bad, layout)?;
-    Ok(())
+    Ok(after)
 }

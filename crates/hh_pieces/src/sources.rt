@@ -6,8 +6,9 @@ ghost use Rattle.hh_pieces.specs.Sources.{IsKnownStill, sources_known};
 ghost use Rattle.hh_records.specs.Taking.{TakesItems};
 
 use crate::read_at::{FromPlace, ReadAt, read_all};
+use crate::texts::read_texts;
 use hh_faults::TextError;
-use hh_records::{Layout, ReadRecords, read_texts};
+use hh_records::{Layout, ReadRecords};
 use hh_stream::{KeyHash, TakeItems};
 use std::alloc::{AllocError, Global};
 use std::io::Read;

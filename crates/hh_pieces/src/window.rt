@@ -1,6 +1,6 @@
 //! What is held of the bytes that a reader gave.
 
-ghost use Rattle.std.specs.Prelude.{◌≡◌, ◌≤◌, ◌<◌, ◌++◌, ℕ, List, [], drop, length, IfOk, OnOk};
+ghost use Rattle.std.specs.Prelude.{◌≡◌, ◌≤◌, ◌<◌, ◌+◌, ◌++◌, ℕ, List, [], drop, length, IfOk, OnOk};
 ghost use Rattle.std.specs.Io.KnownBytes.{Consumes, IsAtEnd};
 
 use hh_records::retrying::read;
@@ -14,12 +14,13 @@ pub(crate) fn zeros(alloc: Global, len: usize) -> Result<Vec<u8>, AllocError>
     vec![in alloc; 0u8; len]
 }
 
-/// A buffer, and how many bytes at its front are held.
+/// A buffer, and which of its bytes are held: so many from a place on.
 #[derive(Drop)]
 pub(crate) struct Window {
     bytes: Vec<u8>,
+    from: usize,
     held: usize,
-    ghost within: { held ≤ length bytes.items },
+    ghost within: { from + held ≤ length bytes.items },
 }
 
 impl Window {
@@ -30,14 +31,18 @@ impl Window {
         ensures { IfOk result (λ window. held_in window ≡ []) }
     {
         let bytes = zeros(alloc, room)?;
-        Ok(Window { bytes, held: 0 })
+        Ok(Window {
+            bytes,
+            from: 0,
+            held: 0,
+        })
     }
 
     // The bytes that it holds.
     pub(crate) fn held(&self) -> &[u8]
         ensures { result.now ≡ held_in self.now }
     {
-        &self.bytes[..self.held]
+        &self.bytes[self.from..self.from + self.held]
     }
 
     // How many bytes it holds.
@@ -47,14 +52,29 @@ impl Window {
         self.held
     }
 
-    // Gets room for one byte more: a full buffer gets twice as long, or this long where that is
-    // less and is enough.
+    // Moves the bytes that it holds to the front of the buffer.
+    fn move_to_front(&mut self)
+        ensures held { held_in self.new ≡ held_in self.old }
+        ensures front { self.new.from ≡ 0 }
+    {
+        let from = self.from;
+        let end = from + self.held;
+        self.bytes.as_mut_slice().copy_within(from..end, 0);
+        self.from = 0;
+    }
+
+    // Gets room for one byte more. Bytes are moved to the front where more than they are were removed
+    // before them; a full buffer gets twice as long, or this long where that is less and is enough.
     pub(crate) fn make_room(&mut self, most: usize) -> Result<(), AllocError>
         ensures held { OnOk result (held_in self.new ≡ held_in self.old) }
-        ensures room { OnOk result (self.new.held < length self.new.bytes.items) }
+        ensures room { OnOk result (self.new.from + self.new.held
+            < length self.new.bytes.items) }
     {
+        if self.held < self.from {
+            self.move_to_front();
+        }
         let len = self.bytes.len();
-        if self.held < len {
+        if self.from + self.held < len {
             return Ok(());
         }
         let Some(least) = len.checked_add(1) else {
@@ -66,15 +86,15 @@ impl Window {
 
     // Reads once, into the room after the bytes that it holds.
     pub(crate) fn read_more<R: Read>(&mut self, reader: &mut R) -> io::Result<usize>
-        requires room { self.old.held < length self.old.bytes.items }
+        requires room { self.old.from + self.old.held < length self.old.bytes.items }
         ensures more { IfOk result (λ count. (more : List ℕ) × (length more ≡ count)
             × (held_in self.new ≡ held_in self.old ++ more)
             × Consumes (R.remaining reader.old) (R.remaining reader.new) more) }
         ensures end { IfOk result (λ count. count ≡ 0 → IsAtEnd (R.remaining reader.new)) }
     {
-        let held = self.held;
-        let count = read(reader, &mut self.bytes[held..])?;
-        self.held = held + count;
+        let end = self.from + self.held;
+        let count = read(reader, &mut self.bytes[end..])?;
+        self.held += count;
         Ok(count)
     }
 
@@ -83,8 +103,7 @@ impl Window {
         requires { count ≤ length (held_in self.old) }
         ensures { held_in self.new ≡ drop count (held_in self.old) }
     {
-        let held = self.held;
-        self.bytes.as_mut_slice().copy_within(count..held, 0);
-        self.held = held - count;
+        self.from += count;
+        self.held -= count;
     }
 }

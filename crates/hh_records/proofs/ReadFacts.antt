@@ -22,10 +22,8 @@ use Rattle.hh_faults.specs.declared.records.BadRecordCause.{BadRecordCause}
 use Rattle.hh_faults.specs.declared.records.BadRecordCause.TheVariants as cause
 use Rattle.hh_faults.specs.declared.records.TextError.{TextError}
 use Rattle.hh_faults.specs.declared.records.TextError.TheVariants as text
-use Rattle.hh_records.specs.Layouts.{ColumnsRefused, IsPlain, IsStart, OpenRefused, Opens, RecordRefused, RowsRefused, added, adding_next, adds, adds_instead, adds_itself, between, by_columns, chosen_places, columns_among, config_of, configured, counted_as, field_names, gathered, headed_parts, items_after, joined, member_names, names_columns, parts_at, parts_by, places_in, text_parts, texts_parts}
-use Rattle.hh_records.specs.declared.layout.ChosenLayout.{ChosenLayout}
+use Rattle.hh_records.specs.Layouts.{IsPlain, RecordRefused, RowsRefused, added, adding_next, adds, adds_instead, adds_itself, between, by_columns, columns_among, config_of, configured, counted_as, field_names, gathered, headed_parts, items_after, joined, member_names, parts_at, parts_by, places_in, text_parts, texts_parts}
 use Rattle.hh_records.specs.declared.layout.Layout.{Layout}
-use Rattle.hh_records.specs.declared.retrying.Retrying.{Retrying}
 use Rattle.hh_records.proofs.FormatFacts.{whole-parts}
 use Rattle.hh_records.specs.Formats.{byte_between, fields_by, has_quotes, part_said}
 use Rattle.hh_records.specs.Laws.{PlainLayoutsReadStreams}
@@ -318,92 +316,6 @@ module _ (cfg : Config) (f : Fields → Parts) (layout : Layout) (s0 : State) (b
           number,
         ) refl
     read-refused known _ q h r j = absurd j
-
--- a header was read: the records after it are those that are left
-pub header-taken : {R : Type 0} (rem : R → Option (List ℕ)) (a b : Reader R) (f : Fields) (cfg : Config) (y : List ℕ)
-    → a.config ≡ cfg → a.state ≡ st.StartRecord → source_of rem a ≡ Some y → ReadRecord rem a b true f
-    → (z : List ℕ) × (source_of rem b ≡ Some z) × (ends_at_end b.state ≡ false)
-    × (records cfg y ≡ f ∷ records_from cfg (length z + 1) b.state z)
-unfolding Reached records_from
-header-taken rem a b f cfg y config start source r =
-    let (z, at, reached) = rows-more rem a b f cfg st.StartRecord y y [] config source (sym start, refl) r in
-    let p = reached.0 in
-    let next = reached.1 in
-    let (state, rest) = reached.3 in
-    let after = record-quiet cfg st.StartRecord [] [] y p next in
-    let less = after.2 refl in
-    let stands : ends_at_end b.state ≡ false = rw (← state) after.0 in
-    let shorter : length z < length y = rw (← rest) less in
-    let same : records_from cfg (length y) b.state z ≡ records_from cfg (length z + 1) b.state z =
-    enough cfg b.state z (length y) (length z + 1) stands shorter (omega arith) in
-    let one : length y + 1 ≡ suc (length y) = omega arith in
-    let moved : records_from cfg (length y) p.1 p.2 ≡ records_from cfg (length z + 1) b.state z = rw (state, rest) same in (
-      z,
-      at,
-      stands,
-      ap (λ n. records_from cfg n st.StartRecord y) one
-          ∙ ap (records_next (records_from cfg (length y))) next
-          ∙ ap (λ (rs : List Fields). p.0 ∷ rs) moved
-          ∙ ap (λ (r : List (List ℕ)). r ∷ records_from cfg (length z + 1) b.state z) (sym reached.2),
-    )
-
--- there was no header, and there are no records
-pub header-missed : {R : Type 0} (rem : R → Option (List ℕ)) (a b : Reader R) (f : Fields) (cfg : Config) (y : List ℕ)
-    → a.config ≡ cfg → a.state ≡ st.StartRecord → source_of rem a ≡ Some y → ReadRecord rem a b false f
-    → records cfg y ≡ []
-header-missed rem a b f cfg y config start source r =
-    let none = rows-end rem a b f cfg y config source r in
-    no-records cfg st.StartRecord y (length y + 1) (rw start at none)
-
--- ---- a text that is opened
-module _ {R : Type 0} (remaining : R → Option (List ℕ)) (layout : Layout) (a b : Reader (Retrying R)) (f : Fields)
-    (start : IsStart layout a) where
-  abbrev pub rem : Retrying R → Option (List ℕ)
-  rem r = remaining r.inner
-
-  abbrev pub parts : List ℕ → Option (List Parts)
-  parts bytes = headed_parts layout (records (config_of layout) bytes)
-
-  -- with no header
-  pub opened-none : (o : Option (List ℕ)) → source_of rem a ≡ o → ReadRecord rem a b false f
-      → Opens remaining (option_map parts o) None
-  opened-none None e r = tt
-  opened-none (Some y) e r =
-      ([], refl, rw (header-missed rem a b f (config_of layout) y start.config start.start e r) refl)
-
-  -- after its header
-  pub opened-some : (chosen : ChosenLayout) (o : Option (List ℕ)) → source_of rem a ≡ o → ReadRecord rem a b true f
-      → places_in layout f ≡ Some (chosen_places chosen)
-      → Opens remaining (option_map parts o) (Some (record { rows = b; chosen = chosen }))
-  opened-some chosen None e r places = tt
-  opened-some chosen (Some y) e r places =
-      let cfg = config_of layout in
-      let (z, at, stands, all) = header-taken rem a b f cfg y start.config start.start e r in
-      let config : b.config ≡ cfg = r.2 ∙ start.config in
-      let all_parts : List Fields → List Parts = λ rows. map (parts_at (chosen_places chosen)) rows in (
-        all_parts (records_from cfg (length z + 1) b.state z),
-        ap (option_map (λ bytes. all_parts (records_from b.config (length bytes + 1) b.state bytes)))
-            (ap (λ q. if q then None else source_of rem b) stands ∙ at)
-            ∙ ap (λ cfg. Some (all_parts (records_from cfg (length z + 1) b.state z))) config,
-        ap (headed_parts layout) all
-            ∙ ap (option_map (λ at. map (parts_at at) (records_from cfg (length z + 1) b.state z))) places,
-      )
-
-  opened-not : (o : Option (List ℕ)) → source_of rem a ≡ o → ReadRecord rem a b true f → places_in layout f ≡ None
-      → IfSome (option_map parts o) (λ ps. ps ≡ None)
-  opened-not None e r places = tt
-  opened-not (Some y) e r places =
-      let (z, at, stands, all) =
-      header-taken rem a b f (config_of layout) y start.config start.start e r in
-      rw (all, places) refl
-
-  -- with a header that lacks a column, or with no memory
-  pub opened-refused : (x : TextError) (o : Option (List ℕ)) → source_of rem a ≡ o → ReadRecord rem a b true f
-      → ColumnsRefused layout (places_in layout f) x → OpenRefused (names_columns layout) (option_map parts o) x
-  opened-refused text.Memory o e r h = tt
-  opened-refused text.NoColumn o e r h = (h.0, opened-not o e r h.1)
-  opened-refused text.ReadFault o e r h = absurd h
-  opened-refused (text.BadRecord n c) o e r h = absurd h
 
 -- ---- the layout of a key and its weight
 unadded : (x : BadRecordCause) → added false (Err x) ≡ Err x

@@ -1,13 +1,12 @@
 -- What a refusal of the words of columns says of the layout.
-use Rattle.std.proofs.Common.{◌≡◌, ◌<◌, ◌++◌, ◌∷◌, ℕ, List, [], Global, Vec, arith, inl, inr, length, subst}
-use Rattle.std.specs.Prelude.{Contains, IsSome, Some, get_or, map}
+use Rattle.std.proofs.Common.{◌<◌, ◌++◌, ◌∷◌, ℕ, List, [], Global, Vec, arith, length, subst}
+use Rattle.std.specs.Prelude.{Contains, get_or, map}
 use Rattle.std.proofs.lemmas.List.{get_or-map, length-map}
 use Rattle.std.proofs.lemmas.List.Elements.{Contains-get_or}
 use Rattle.hh_faults.specs.declared.error.ToolError.{ToolError}
 use Rattle.hh_faults.specs.declared.error.ToolError.TheVariants as tool
 use Rattle.hh_records.specs.declared.layout.Column.{Column}
-use Rattle.hh_records.specs.declared.layout_words.LayoutWords.{LayoutWords}
-use Rattle.hh_records.specs.LayoutWords.{ColumnRefused, ColumnsRefused, KeyRefused, LayoutRefused, NamesKey, Naming, SaysColumn, byte_said, key_words, naming, weight_word}
+use Rattle.hh_records.specs.LayoutWords.{ColumnRefused, KeyRefused, NamesKey, Naming, SaysColumn}
 
 -- a word and its column more
 pub names-push : (h : Naming) (words : List (List ℕ)) (columns : List Column) (word : List ℕ) (column : Column)
@@ -31,23 +30,3 @@ key-refused h words i d tool.BadColumn less r =
 key-refused h words i d tool.Memory less r = tt
 key-refused h words i d _ less r = absurd r
 
--- a refusal of the key's words
-pub refused-key : (words : LayoutWords) (e : ToolError) → KeyRefused (naming words) (key_words words) e
-    → ColumnsRefused words e
-refused-key words tool.BadColumn r = inr (inl r)
-refused-key words tool.Memory r = tt
-refused-key words _ r = absurd r
-
--- a refusal of the weight's word
-pub refused-weight : (words : LayoutWords) (word : List ℕ) (e : ToolError) → weight_word words ≡ Some word
-    → ColumnRefused (naming words) word e → ColumnsRefused words e
-refused-weight words word tool.BadColumn is r = inr (inr (word, is, r))
-refused-weight words word tool.Memory is r = tt
-refused-weight words word _ is r = absurd r
-
--- a refusal of the columns, where the delimiter is good
-pub refused-columns : (words : LayoutWords) (e : ToolError) → IsSome (byte_said words) → ColumnsRefused words e
-    → LayoutRefused words e
-refused-columns words tool.BadColumn good r = (good, r)
-refused-columns words tool.Memory good r = tt
-refused-columns words _ good r = absurd r

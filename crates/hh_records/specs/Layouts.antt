@@ -9,7 +9,6 @@ use Rattle.csv.specs.Records.{field_at}
 use Rattle.csv.specs.Writing.{comma, default_writer, row_body}
 use Rattle.csv.specs.declared.parser.Config.{Config}
 use Rattle.csv.specs.declared.parser.State.{State}
-use Rattle.csv.specs.declared.parser.State.TheVariants as st
 use Rattle.csv.specs.declared.reader.Reader.{Reader}
 use Rattle.csv.specs.declared.reader.Trim.TheVariants as trim
 use Rattle.hh_stream.specs.Digits.{is_number, value_of}
@@ -26,9 +25,6 @@ use Rattle.hh_records.specs.declared.layout.Layout.{Layout}
 use Rattle.hh_records.specs.declared.layout.ChosenLayout.{ChosenLayout}
 use Rattle.hh_faults.specs.declared.records.BadRecordCause.{BadRecordCause}
 use Rattle.hh_faults.specs.declared.records.BadRecordCause.TheVariants as cause
-use Rattle.hh_records.specs.declared.retrying.Retrying.{Retrying}
-use Rattle.hh_records.specs.declared.texts.Records.{Records}
-use Rattle.hh_records.specs.declared.texts.Text.{Text}
 use Rattle.hh_faults.specs.declared.records.TextError.{TextError}
 use Rattle.hh_faults.specs.declared.records.TextError.TheVariants as text
 
@@ -312,34 +308,22 @@ RecordRefused n added (text.BadRecord m c) = (m ≡ n) × (added ≡ Err c)
 RecordRefused n added text.Memory = ⊤
 RecordRefused n added _ = ⊥
 
--- the bytes that a reader of records has left, where they are known
-abbrev pub unread : {R : Type 0} → (R → Option (List ℕ)) → Reader (Retrying R) → Option (List ℕ)
-unread remaining rows = source_of (λ r. remaining r.inner) rows
-
 -- these bytes, of a reader that stands between two records
 abbrev pub between : State → Option (List ℕ) → Option (List ℕ)
 between state bytes = if ends_at_end state then None else bytes
 
--- a text whose next read is of a record, as it stands there
-pub record IsText {R : Type 0} (text : Text R) : Type 0 where
-  pub untrimmed : reader_trim text.rows ≡ trim.None
-  pub ready : Ready text.rows
-  pub flexible : is_flexible text.rows ≡ true
-
--- a reader at the start of a text, which a layout is for
-pub record IsStart {R : Type 0} (layout : Layout) (rows : Reader R) : Type 0 where
+-- a reader whose next read is of a record, as it stands there
+pub record IsReady {R : Type 0} (rows : Reader R) : Type 0 where
   pub untrimmed : reader_trim rows ≡ trim.None
   pub ready : Ready rows
   pub flexible : is_flexible rows ≡ true
-  pub config : reader_config rows ≡ config_of layout
-  pub start : reader_state rows ≡ st.StartRecord
 
--- the records that a text has left, each as its key and its weight's field, where its bytes are known
-abbrev pub parts_left : {R : Type 0} → (R → Option (List ℕ)) → Text R → Option (List Parts)
-parts_left remaining text =
-    option_map (λ bytes. map (parts_at (chosen_places text.chosen))
-    (records_from (reader_config text.rows) (length bytes + 1) (reader_state text.rows) bytes))
-    (between (reader_state text.rows) (unread remaining text.rows))
+-- the records that a reader has left, each as its key and its weight's field, where its bytes are known
+abbrev pub rows_left : {R : Type 0} → (R → Option (List ℕ)) → Places → Reader R → Option (List Parts)
+rows_left remaining at rows =
+    option_map (λ bytes. map (parts_at at)
+    (records_from (reader_config rows) (length bytes + 1) (reader_state rows) bytes))
+    (between (reader_state rows) (source_of remaining rows))
 
 -- what a refusal to read the records of a text says, where this number of others come before them
 -- and a total of t
@@ -350,11 +334,6 @@ RowsRefused layout before t left (text.BadRecord n c) =
     IfSome left (λ ps. items_after layout (before + 1) t ps ≡ Err (n, c))
 RowsRefused layout before t left text.Memory = ⊤
 
--- the records that a text has left, and none where it was to have a header and has no record
-abbrev pub text_left : {R : Type 0} → (R → Option (List ℕ)) → Option (Text R) → Option (List Parts)
-text_left remaining None = Some []
-text_left remaining (Some text) = parts_left remaining text
-
 -- what a refusal to open texts says of their records, where they are known
 abbrev pub OpenRefused : Bool → Option (Option (List Parts)) → TextError → Type 0
 OpenRefused names parts text.ReadFault = ⊤
@@ -362,37 +341,12 @@ OpenRefused names parts text.NoColumn = (names ≡ true) × IfSome parts (λ ps.
 OpenRefused names parts (text.BadRecord n c) = ⊥
 OpenRefused names parts text.Memory = ⊤
 
--- the records that open texts have left, one text after the other
-abbrev pub all_left : {R : Type 0} → (R → Option (List ℕ)) → List (Text R) → Option (List Parts)
-all_left remaining texts = gathered (parts_left remaining) texts
-
--- a text that was opened has these records left, where they are known
-abbrev pub Opens : {R : Type 0} → (R → Option (List ℕ)) → Option (Option (List Parts)) → Option (Text R) → Type 0
-Opens remaining parts opened =
-    IfSome parts (λ known. (ps : List Parts) × (text_left remaining opened ≡ Some ps) × (known ≡ Some ps))
-
--- open texts have these records more left, where they are known
-abbrev pub OpensAs : {R : Type 0} → (R → Option (List ℕ)) → Option (Option (List Parts)) → List (Text R) → List (Text R) → Type 0
-OpensAs remaining parts old new =
-    IfSome parts (λ known. (ps : List Parts) × (known ≡ Some ps)
-    × ((before : List Parts) → all_left remaining old ≡ Some before → all_left remaining new ≡ Some (before ++ ps)))
-
--- the texts of readers are open: they have their records left, where these are known
-abbrev pub AllOpen : {R : Type 0} → (R → Option (List ℕ)) → Layout → List R → List (Text R) → Type 0
-AllOpen remaining layout readers texts =
-    IfSome (every remaining readers) (λ bytes. (ps : List Parts)
-    × (all_left remaining texts ≡ Some ps) × (texts_parts layout bytes ≡ Some ps))
-
 -- what is known of the records of some texts: what they read as, where all bytes are known
 abbrev pub texts_known : {R : Type 0} → (R → Option (List ℕ)) → Layout → List R → Known
 texts_known bytes layout texts = record {
   names_columns = names_columns layout;
   reading = option_map (stream_with layout) (every bytes texts);
 }
-
--- what is known of records that are to be read
-abbrev pub records_known : {R : Type 0} → (R → Option (List ℕ)) → Records R → Known
-records_known remaining records = texts_known remaining records.layout (records.first ∷ records.others.items)
 
 -- what a refusal to read records by a layout says of them
 abbrev pub TextsRefused : Known → TextError → Type 0

@@ -1,4 +1,3 @@
-pub mod Clips
 pub mod Decimals
 pub mod Formats
 pub mod Laws

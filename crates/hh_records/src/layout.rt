@@ -346,7 +346,7 @@ fn columns_in(
 
 /// Gives how the records of a text are read by `layout` where this is its header, or one of no
 /// fields where it has none.
-pub(crate) fn choose(
+pub fn choose(
     alloc: Global,
     layout: &Layout,
     header: &ByteRecord,

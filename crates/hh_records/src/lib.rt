@@ -4,7 +4,6 @@
 //! `hh_` is heavy hitters, the frequent keys.
 #![tactic(auto)]
 
-mod clipped;
 mod decimals;
 mod format;
 pub mod laws;
@@ -18,7 +17,9 @@ pub use decimals::pointed;
 pub use format::{Format, KeyPart, MemberNames};
 pub use hh_faults::{BadRecordCause, TextError};
 pub use hh_stream::TakeItems;
-pub use layout::{BadAs, ChosenLayout, Column, ColumnIndices, Layout, column_of, delimiter_of};
+pub use layout::{
+    BadAs, ChosenLayout, Column, ColumnIndices, Layout, choose, column_of, delimiter_of,
+};
 pub use layout_words::{LayoutWords, layout_of};
-pub use records::{number_in, read_items, read_rows, read_stream, take_parts};
-pub use texts::{ReadRecords, Records, Text, open, read_records, read_texts};
+pub use records::{Room, number_in, read_rows, take_parts, take_row};
+pub use texts::ReadRecords;

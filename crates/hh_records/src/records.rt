@@ -1,7 +1,8 @@
 //! Records of keys and weights, read one by one.
 
-ghost use Rattle.std.specs.Prelude.{length, Err, Some, ◌≡◌, ◌+◌, ◌<◌, ◌≤◌, ◌^◌, false, true, min, Ok, MatchOption, IfSome, IfOk, IfErr, OnOk, option_map};
-ghost use Rattle.csv.specs.Reading.{stops_reader};
+ghost use Rattle.std.specs.Prelude.{length, map, Err, Some, ◌≡◌, ◌+◌, ◌<◌, ◌≤◌, ◌^◌, false, true, min, Ok, MatchOption, IfSome, IfOk, IfErr, OnOk, option_map};
+ghost use Rattle.csv.specs.Reading.{reader_config, reader_state, source_of, stops_reader, strip_bom};
+ghost use Rattle.csv.specs.declared.parser.State.TheVariants as st;
 ghost use Rattle.csv.specs.Records.{fields_of};
 ghost use Rattle.csv.specs.Writing.{default_writer, row_body};
 ghost use Rattle.hh_stream.specs.Weights.{max_key_len, max_total};
@@ -9,18 +10,15 @@ ghost use Rattle.hh_stream.specs.Digits.{is_number, value_of};
 ghost use Rattle.hh_stream.specs.Taking.{Takes};
 ghost use Rattle.hh_records.specs.Formats.{part_said, with_part};
 ghost use Rattle.hh_records.specs.Layouts.{parts_by, chosen_columns};
-ghost use Rattle.hh_records.specs.Layouts.{IsText, RecordRefused, RowsRefused, TextsRefused, adds, adds_instead, adds_itself, bad_key, chosen_places, fields_at, is_hyphen, items_after, items_of_weight, key_of, parts_at, parts_left, weight_at, weight_by};
-ghost use Rattle.hh_records.specs.Streams.{fault_of, parts_of, ReadsAs, text_known};
-ghost use Rattle.hh_records.specs.Taking.{TakesItems};
+ghost use Rattle.hh_records.specs.Layouts.{IsReady, RecordRefused, RowsRefused, adds, adds_instead, adds_itself, bad_key, chosen_places, config_of, fields_at, is_hyphen, items_after, items_of_weight, key_of, parts_at, rows_in, rows_left, weight_at, weight_by};
+ghost use Rattle.hh_records.specs.Streams.{fault_of, parts_of};
 
 use crate::decimals::{scaled, units_in};
 use crate::format::{KeyPart, Spare, fields_by, part_of_last};
 use crate::layout::{ChosenLayout, Layout};
-use crate::retrying::Retrying;
-use crate::texts::{Records, Text, read_records};
-use csv::{ByteRecord, ErrorKind, Reader, WriterBuilder};
+use csv::{ByteRecord, ErrorKind, Reader, ReaderBuilder, WriterBuilder};
 use hh_faults::{BadRecordCause, TextError};
-use hh_stream::{MAX_KEY_LEN, MAX_TOTAL, Stream, TakeItems};
+use hh_stream::{MAX_KEY_LEN, MAX_TOTAL, TakeItems};
 use std::alloc::{AllocError, Global};
 use std::io::Read;
 
@@ -315,36 +313,36 @@ fn parts_by<'r>(
     }
 }
 
-/// Room for a record and what is made of it, which serves one record after the other.
+/// Room for what is made of a record, which serves one record after the other.
 #[derive(Drop)]
-struct Room {
+pub struct Room {
     alloc: Global,
-    row: ByteRecord,
     spare: Spare,
     joined: Vec<u8>,
 }
 
 impl Room {
-    fn new(alloc: Global) -> Room {
+    pub fn new(alloc: Global) -> Room {
         Room {
             alloc,
-            row: ByteRecord::new(alloc),
             spare: Spare::new(alloc),
             joined: Vec::new(alloc),
         }
     }
 
-    /// The key and the weight's field of the record that was read last, where it has the fields for
-    /// them.
+    /// The key and the weight's field of `row`, where it has the fields for them.
     #[inline(always)]
-    fn parts(&mut self, chosen: &ChosenLayout) -> Result<Option<(&[u8], Option<&[u8]>)>, AllocError>
+    fn parts<'r>(
+        &'r mut self,
+        row: &'r ByteRecord,
+        chosen: &ChosenLayout,
+    ) -> Result<Option<(&'r [u8], Option<&'r [u8]>)>, AllocError>
         ensures { IfOk result (λ parts.
             option_map (λ p. (p.0.now, option_map (λ f. f.now) p.1)) parts
-            ≡ parts_at (chosen_places chosen.now) (fields_of self.old.row)) }
+            ≡ parts_at (chosen_places chosen.now) (fields_of row.now)) }
     {
         let Room {
             alloc,
-            row,
             spare,
             joined,
         } = self;
@@ -353,11 +351,13 @@ impl Room {
     }
 }
 
-/// Hands on what the record adds that was read last, which has this `number`.
+/// Hands on what the record adds that has these fields and this `number`, and counts it where it is
+/// `bad` and counts as the key of the layout.
 #[inline(always)]
-fn take_record<T: TakeItems>(
+pub fn take_row<T: TakeItems>(
     taker: &mut T,
     room: &mut Room,
+    row: &ByteRecord,
     chosen: &ChosenLayout,
     number: u64,
     bad: &mut u64,
@@ -367,20 +367,20 @@ fn take_record<T: TakeItems>(
     ensures taken { OnOk result
         (Takes T.with_item T.weight_taken taker.old taker.new (λ xs.
         adds layout.now (T.weight_taken taker.old)
-        (parts_at (chosen_places chosen.now) (fields_of room.old.row)) ≡ Ok xs)) }
+        (parts_at (chosen_places chosen.now) (fields_of row.now)) ≡ Ok xs)) }
     ensures bounded { OnOk result (T.weight_taken taker.new ≤ max_total) }
     ensures refused { IfErr result (RecordRefused number
         (adds layout.now (T.weight_taken taker.old)
-        (parts_at (chosen_places chosen.now) (fields_of room.old.row)))) }
+        (parts_at (chosen_places chosen.now) (fields_of row.now)))) }
 {
     let alloc = room.alloc;
-    let parts = room.parts(chosen)?;
+    let parts = room.parts(row, chosen)?;
     take_parts(alloc, taker, number, parts, bad, layout)
 }
 
 /// The error that a fault of `csv`'s reader is: its want of memory, or a failure of the reader
 /// underneath.
-pub(crate) fn fault_of(fault: &ErrorKind) -> TextError
+fn fault_of(fault: &ErrorKind) -> TextError
     requires { stops_reader fault.now ≡ true }
     ensures { result ≡ fault_of fault.now }
 {
@@ -397,7 +397,8 @@ pub(crate) fn fault_of(fault: &ErrorKind) -> TextError
 /// Hands on what each record that `rows` has left adds, by the places of its key and weight, and
 /// counts all records, with the number of those `before`, and those that are `bad`.
 fn take_rows<R: Read, T: TakeItems>(
-    rows: &mut Reader<Retrying<R>>,
+    rows: &mut Reader<R>,
+    row: &mut ByteRecord,
     room: &mut Room,
     chosen: &ChosenLayout,
     before: u64,
@@ -405,89 +406,76 @@ fn take_rows<R: Read, T: TakeItems>(
     bad: &mut u64,
     layout: &Layout,
 ) -> Result<u64, TextError>
-    requires text { IsText (record { rows = rows.old; chosen = chosen.now }) }
+    requires ready { IsReady rows.old }
     requires bounded { T.weight_taken taker.old ≤ max_total }
     ensures items { IfOk result (λ after.
         Takes T.with_item T.weight_taken taker.old taker.new (λ xs.
-        IfSome (parts_left R.remaining (record { rows = rows.old; chosen = chosen.now })) (λ ps.
+        IfSome (rows_left R.remaining (chosen_places chosen.now) rows.old) (λ ps.
         (items_after layout.now (before + 1) (T.weight_taken taker.old) ps ≡ Ok xs)
         × (after ≡ before + length ps)))) }
     ensures bounded { OnOk result (T.weight_taken taker.new ≤ max_total) }
     ensures refused { IfErr result (λ error.
         RowsRefused layout.now before (T.weight_taken taker.old)
-        (parts_left R.remaining (record { rows = rows.old; chosen = chosen.now })) error) }
+        (rows_left R.remaining (chosen_places chosen.now) rows.old) error) }
 {
     let mut number = before;
     while number < u64::MAX {
-        match rows.read_byte_record(&mut room.row) {
+        match rows.read_byte_record(row) {
             Ok(true) => {}
             Ok(false) => return Ok(number),
             Err(error) => return Err(fault_of(error.kind())),
         }
         number += 1;
-        take_record(taker, room, chosen, number, bad, layout)?;
+        take_row(taker, room, row, chosen, number, bad, layout)?;
     }
     Err(TextError::ReadFault)
 }
 
-/// Hands on what each record of `text` adds, and counts all records, with the number of those
-/// `before`, and those that are `bad` and count as the key of the layout.
-pub fn read_rows<R: Read + Drop, T: TakeItems>(
+/// A reader of the records that some bytes are.
+fn rows_of<'b>(alloc: Global, bytes: &'b [u8], layout: &Layout) -> Reader<&'b [u8]>
+    ensures ready { IsReady result }
+    ensures config { reader_config result ≡ config_of layout.now }
+    ensures start { reader_state result ≡ st.StartRecord }
+    ensures source { source_of ⟦<&'b [u8] as Read>⟧.remaining result
+        ≡ Some (strip_bom bytes.now) }
+{
+    ReaderBuilder::new()
+        .delimiter(layout.format.byte_between(layout.delimiter))
+        .quoting(layout.format.has_quotes())
+        .has_headers(false)
+        .flexible(true)
+        .from_reader(alloc, bytes)
+}
+
+/// Hands on what each record adds that some bytes are, by the columns of `chosen`, and counts all
+/// records, with the number of those `before`, and those that are `bad` and count as the key of the
+/// layout.
+pub fn read_rows<T: TakeItems>(
     alloc: Global,
-    text: Text<R>,
+    bytes: &[u8],
+    chosen: &ChosenLayout,
     before: u64,
     taker: &mut T,
     bad: &mut u64,
     layout: &Layout,
 ) -> Result<u64, TextError>
-    requires text { IsText text }
     requires bounded { T.weight_taken taker.old ≤ max_total }
     ensures items { IfOk result (λ after.
         Takes T.with_item T.weight_taken taker.old taker.new (λ xs.
-        IfSome (parts_left R.remaining text) (λ ps.
-        (items_after layout.now (before + 1) (T.weight_taken taker.old) ps ≡ Ok xs)
-        × (after ≡ before + length ps)))) }
+        (items_after layout.now (before + 1) (T.weight_taken taker.old)
+        (map (parts_at (chosen_places chosen.now)) (rows_in layout.now bytes.now)) ≡ Ok xs)
+        × (after ≡ before + length (rows_in layout.now bytes.now)))) }
     ensures bounded { OnOk result (T.weight_taken taker.new ≤ max_total) }
     ensures refused { IfErr result (λ error.
         RowsRefused layout.now before (T.weight_taken taker.old)
-        (parts_left R.remaining text) error) }
+        (Some (map (parts_at (chosen_places chosen.now)) (rows_in layout.now bytes.now)))
+        error) }
 {
-    let Text { mut rows, chosen } = text;
+    let mut rows = rows_of(alloc, bytes, layout);
+    let mut row = ByteRecord::new(alloc);
     let mut room = Room::new(alloc);
-    take_rows(&mut rows, &mut room, &chosen, before, taker, bad, layout)
-}
-
-/// Hands the item of each record of a reader to a taker of none, in order, and returns the taker.
-/// Records and their tests are those of [`read_stream`], so each weight is at least 1.
-///
-/// The first record that fails a test, or that the taker has no memory for, ends the reading, as
-/// does a reader that fails. [`TextError::NoColumn`] doesn't come. A read that a signal interrupts
-/// is tried again.
-pub fn read_items<R: Read + Drop, T: TakeItems>(
-    alloc: Global,
-    reader: R,
-    taker: T,
-) -> Result<T, TextError>
-    requires none { T.weight_taken taker ≡ 0 }
-    ensures items { IfOk result (λ taken.
-        TakesItems T.with_item (text_known (R.remaining reader)) taker taken) }
-    ensures refused { IfErr result (λ error.
-        TextsRefused (text_known (R.remaining reader)) error) }
-{
-    read_records(alloc, Records::of_reader(alloc, reader), taker)
-}
-
-/// The stream of a text of records, each a key and, after a comma, its weight. A record of one
-/// field has weight 1. Records are what `csv` reads: there is no header row, fields may be quoted,
-/// and a key may be any 1 to 4,096 bytes.
-///
-/// The first record that fails a test ends the reading: the error has its number, from 1 on, and
-/// the cause. [`TextError::NoColumn`] doesn't come. A read that a signal interrupts is tried again.
-pub fn read_stream<R: Read + Drop>(alloc: Global, reader: R) -> Result<Stream, TextError>
-    ensures stream { IfOk result (λ stream.
-        ReadsAs (text_known (R.remaining reader)) (Ok stream)) }
-    ensures refused { IfErr result (λ error.
-        TextsRefused (text_known (R.remaining reader)) error) }
-{
-    read_items(alloc, reader, Stream::new(alloc))
+    let after = take_rows(
+        &mut rows, &mut row, &mut room, chosen, before, taker, bad, layout,
+    )?;
+    Ok(after)
 }

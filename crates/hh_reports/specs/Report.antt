@@ -1,4 +1,4 @@
--- What a report leaves in a sink, and what its refusals tell.
+-- What a report has and leaves in a sink, and what its refusals tell.
 use Rattle.std.specs.Prelude.{◌≡◌, ◌-◌, not, ℕ, List, Option, Some, None, is_none, Ok, ⊤, if◌then◌else◌}
 use Rattle.std.specs.Io.KnownBytes.{Appends, Keeps}
 use Rattle.hh_stream.specs.Cuttings.{max_pieces}
@@ -114,18 +114,9 @@ PrintsRows r o known rows =
     (xs : List Entry) × (keys : List Entry) × ReportsKeys o known xs keys
     × (rows ≡ printed_rows (total_of xs) r keys)
 
--- rows of which this holds were written whole
-abbrev pub AreWritten : ReportOptions → (List ℕ → Type 0) → Option (List ℕ) → Option (List ℕ) → Type 0
-AreWritten o holds old new = AreOptions o × (rows : List ℕ) × holds rows × Appends old new rows
-
 -- a whole report was written
 abbrev pub IsReported : ReportOptions → Known → Option (List ℕ) → Option (List ℕ) → Type 0
-IsReported o known old new = AreWritten o (ReportsRows o known) old new
-
--- a whole report was written as the options of rows want it
-abbrev pub IsPrinted : RowOptions → ReportOptions
-    → Known → Option (List ℕ) → Option (List ℕ) → Type 0
-IsPrinted r o known old new = AreWritten o (PrintsRows r o known) old new
+IsReported o known old new = AreOptions o × (rows : List ℕ) × ReportsRows o known rows × Appends old new rows
 
 -- what a refusal of the options tells: the first test that they fail, the tree's last
 abbrev pub OptionsRefused : ReportOptions → ToolError → Type 0
@@ -140,20 +131,9 @@ StartRefused o known tool.NoColumn = AreOptions o × RecordsRefused known tool.N
 StartRefused o known tool.Memory = bad_option o ≡ None
 StartRefused o known e = OptionsRefused o e
 
--- what each refusal to write rows of which this holds tells, and what it leaves in the sink
-abbrev pub WriteRefused : ReportOptions → Known → (List ℕ → Type 0)
-    → Option (List ℕ) → Option (List ℕ) → ToolError → Type 0
-WriteRefused o known holds old new (tool.WriteFault n) =
-    AreOptions o × (rows : List ℕ) × holds rows × TakesFirst old new rows n
-WriteRefused o known holds old new e = StartRefused o known e × Keeps old new
-
 -- what each refusal of a report says, and what it leaves in the sink
 abbrev pub ReportRefused : ReportOptions
     → Known → Option (List ℕ) → Option (List ℕ) → ToolError → Type 0
-ReportRefused o known old new e = WriteRefused o known (ReportsRows o known) old new e
-
--- what each refusal of a report says, where the options of rows say what is printed, and what it leaves
--- in the sink
-abbrev pub PrintRefused : RowOptions → ReportOptions
-    → Known → Option (List ℕ) → Option (List ℕ) → ToolError → Type 0
-PrintRefused r o known old new e = WriteRefused o known (PrintsRows r o known) old new e
+ReportRefused o known old new (tool.WriteFault n) =
+    AreOptions o × (rows : List ℕ) × ReportsRows o known rows × TakesFirst old new rows n
+ReportRefused o known old new e = StartRefused o known e × Keeps old new

@@ -7,12 +7,12 @@ ghost use Rattle.hh_workers.specs.Workers.{max_workers};
 ghost use Rattle.hh_summaries.specs.Report.{IsShare, heavy};
 ghost use Rattle.hh_stream.specs.Ranges.{in_range};
 ghost use Rattle.hh_stream.specs.Weights.{Entry, total_of};
-ghost use Rattle.hh_records.specs.Layouts.{records_known};
+ghost use Rattle.hh_pieces.specs.Texts.{records_known};
 ghost use Rattle.hh_records.specs.Streams.{Known, ReadsAs, text_known};
 ghost use Rattle.hh_rows.specs.Thresholds.{threshold_of};
 ghost use Rattle.hh_records.specs.Refusals.{RecordsRefused};
-ghost use Rattle.hh_reports.specs.Report.{AreKeysOf, AreOptions, IsOptionFault, IsPrinted, IsReported, Names};
-ghost use Rattle.hh_reports.specs.Report.{PrintRefused, ReportRefused};
+ghost use Rattle.hh_reports.specs.Report.{AreKeysOf, AreOptions, IsOptionFault, IsReported, Names};
+ghost use Rattle.hh_reports.specs.Report.{PrintsRows, ReportRefused};
 ghost use Rattle.hh_reports.specs.Report.{IsPrepared, PlanNotMade, ReportsKeys, StartRefused, bad_option};
 ghost use Rattle.hh_reports.specs.Report.{settings_of};
 ghost use Rattle.hh_rows.specs.Sinks.{failed_by};
@@ -20,9 +20,9 @@ ghost use Rattle.hh_rows.specs.Sinks.{failed_by};
 use hh_counters::{Heavy, MAX_K};
 use hh_countmin::{Family, MAX_DEPTH, MAX_WIDTH};
 use hh_faults::ToolError;
+use hh_pieces::{Records, read_records};
 use hh_pool::{MAX_WORKERS, OpenGate, Options, Plan, RunError, analyse};
-use hh_records::{Records, read_records};
-use hh_rows::{ReportOptions, RowOptions, Sink, Tree, threshold_of, write_printed};
+use hh_rows::{ReportOptions, RowOptions, Sink, Tree, printed_text, threshold_of, write_report};
 use hh_stream::{Cutting, KeyHash, MAX_PIECES, Stream, in_range};
 use std::alloc::{AllocError, Global};
 use std::io::Read;
@@ -221,38 +221,26 @@ pub fn run_report<T: Threads + Wait + Sync, R: Read + Drop, S: Sink>(
     ensures flushed { OnOk result (S.is_flushed sink.new ≡ true) }
     ensures failed { S.has_failed sink.new ≡ failed_by result }
 {
-    let rows = RowOptions::plain();
-    report_rows(
-        rt,
-        alloc,
-        options,
-        &rows,
-        Records::of_reader(alloc, reader),
-        sink,
-    )
+    let records = Records::of_reader(alloc, reader);
+    let (_, keys) = reported(rt, alloc, options, records)?;
+    write_report(alloc, sink, &keys)
 }
 
-/// [`run_report`] of records in texts and columns of one's own, with rows as `rows` wants them.
-/// Shares are of the total of all records.
-pub fn report_rows<T: Threads + Wait + Sync, R: Read + Drop, S: Sink>(
+/// Makes the rows that [`run_report`] writes, of `records` in texts and columns of one's own, as
+/// `rows` wants them. Shares are of the total of all records.
+pub fn report_rows<T: Threads + Wait + Sync, R: Read + Drop>(
     rt: &T,
     alloc: Global,
     options: &ReportOptions,
     rows: &RowOptions,
     records: Records<R>,
-    sink: &mut S,
-) -> Result<(), ToolError>
-    requires { S.has_failed sink.old ≡ false }
-    ensures reported { OnOk result
-        (IsPrinted rows.now options.now (records_known R.remaining records)
-        (S.taken sink.old) (S.taken sink.new)) }
-    ensures refused { IfErr result (λ fault.
-        PrintRefused rows.now options.now (records_known R.remaining records)
-        (S.taken sink.old) (S.taken sink.new) fault) }
+) -> Result<Vec<u8>, ToolError>
+    ensures rows { IfOk result (λ text. AreOptions options.now
+        × PrintsRows rows.now options.now (records_known R.remaining records) text.items) }
+    ensures refused { IfErr result
+        (StartRefused options.now (records_known R.remaining records)) }
     ensures bad_option { IfSome (bad_option options.now) (λ fault. result ≡ Err fault) }
-    ensures flushed { OnOk result (S.is_flushed sink.new ≡ true) }
-    ensures failed { S.has_failed sink.new ≡ failed_by result }
 {
     let (total, keys) = reported(rt, alloc, options, records)?;
-    write_printed(alloc, sink, total, rows, &keys)
+    Ok(printed_text(alloc, total, rows, &keys)?)
 }

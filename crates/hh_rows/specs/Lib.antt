@@ -1,5 +1,8 @@
+pub mod Json
 pub mod Laws
+pub mod Outputs
 pub mod Printed
+pub mod Readers
 pub mod Rows
 pub mod Sinks
 pub mod Thresholds

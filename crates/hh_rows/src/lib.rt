@@ -1,10 +1,13 @@
-//! Rows out, as CSV text: what a report is asked for by, with the share of the total that a key has
-//! to exceed, and its heavy keys as they are written to a sink.
+//! Rows out: what a report is asked for by, with the share of the total that a key has to exceed,
+//! and its heavy keys as they are written to a sink, as CSV. Rows that were printed as CSV stand as
+//! they are, as TSV, or as JSON, an object a line.
 //!
 //! `hh_` is heavy hitters, the frequent keys.
 #![tactic(auto)]
 
+mod json;
 pub mod laws;
+mod output;
 mod printed;
 mod report_options;
 mod rows;
@@ -12,7 +15,8 @@ mod sink;
 mod threshold;
 
 pub use hh_faults::WriteFault;
-pub use printed::{RowOptions, printed_text, write_printed};
+pub use output::{Form, Output, converted};
+pub use printed::{RowOptions, printed_text};
 pub use report_options::{ReportOptions, Tree};
 pub use rows::{condensed_rows_text, condensed_text, report_text, write_report};
 pub use sink::{Out, Sink, SinkFault, put};

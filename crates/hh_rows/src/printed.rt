@@ -1,18 +1,15 @@
 //! The rows of a report as they are printed: at most the first ones, and with shares of the total.
 
-ghost use Rattle.std.specs.Prelude.{◌≡◌, false, true, Some, IfOk, IfErr, OnOk};
+ghost use Rattle.std.specs.Prelude.{◌≡◌, Some, IfOk, OnOk};
 ghost use Rattle.std.specs.Io.KnownBytes.{Appends};
 ghost use Rattle.csv.specs.Writing.{text_written};
 ghost use Rattle.hh_rows.specs.Printed.{millionths};
 ghost use Rattle.hh_rows.specs.Printed.{plain_rows, printed_row, printed_rows, topmost};
 ghost use Rattle.hh_rows.specs.Rows.{IsBetweenRows};
-ghost use Rattle.hh_rows.specs.Sinks.{TextNotWritten, failed_by};
 
 use crate::rows::{put_fields, text_of, write_row};
-use crate::sink::{Sink, put};
 use csv::{Writer, WriterBuilder};
 use hh_counters::Heavy;
-use hh_faults::ToolError;
 use hh_records::pointed;
 use std::alloc::{AllocError, Global};
 
@@ -104,27 +101,4 @@ pub fn printed_text(
         write_printed_row(alloc, &mut writer, total, options, row)?;
     }
     text_of(writer)
-}
-
-/// Writes the rows of a report as the options want them, as [`put`] writes [`printed_text`]. The
-/// error is `Memory`, before anything is written, or `WriteFault` with the number of bytes that the
-/// sink took.
-pub fn write_printed<S: Sink>(
-    alloc: Global,
-    sink: &mut S,
-    total: u64,
-    options: &RowOptions,
-    rows: &[Heavy],
-) -> Result<(), ToolError>
-    requires { S.has_failed sink.old ≡ false }
-    ensures all { OnOk result (Appends (S.taken sink.old) (S.taken sink.new)
-        (printed_rows total options.now rows.now)) }
-    ensures refused { IfErr result (TextNotWritten (printed_rows total options.now rows.now)
-        (S.taken sink.old) (S.taken sink.new)) }
-    ensures flushed { OnOk result (S.is_flushed sink.new ≡ true) }
-    ensures failed { S.has_failed sink.new ≡ failed_by result }
-{
-    let text = printed_text(alloc, total, options, rows)?;
-    put(sink, text.as_slice())?;
-    Ok(())
 }

@@ -18,7 +18,7 @@ use std::alloc::{AllocError, Global};
 use std::slice;
 
 /// The three bytes of U+FEFF in UTF-8.
-const BYTE_ORDER_MARK: &[u8] = b"\xef\xbb\xbf";
+pub(crate) const BYTE_ORDER_MARK: &[u8] = b"\xef\xbb\xbf";
 
 /// Writes some fields as a row after the others.
 pub(crate) fn put_fields(writer: &mut Writer<Vec<u8>>, fields: &[&[u8]]) -> Result<(), AllocError>

@@ -4,7 +4,7 @@ ghost use Rattle.std.specs.Prelude.{◌≡◌, ◌<◌, ◌^◌, List, IfOk, IfE
 ghost use Rattle.std.specs.Map.{keys_of};
 ghost use Rattle.hh_stream.specs.Weights.{Entry, total_of};
 ghost use Rattle.hh_counters.specs.Condensed.{condensed, free_name, other_name};
-ghost use Rattle.hh_records.specs.Layouts.{records_known};
+ghost use Rattle.hh_pieces.specs.Texts.{records_known};
 ghost use Rattle.hh_rows.specs.Rows.{condensed_by};
 ghost use Rattle.hh_commands.specs.Bounds.{ComparesBounds, TellsOutside};
 ghost use Rattle.hh_commands.specs.Condense.{AboveRefused, CondensePartRefused, CondensesRows, TellsAbove};
@@ -17,7 +17,8 @@ use crate::files::summary_in;
 use hh_counters::laws::{condensed_is_counted, free_name_is_first};
 use hh_counters::{Candidates, Counts, Heavy, Summary};
 use hh_faults::ToolError;
-use hh_records::{ReadRecords, Records};
+use hh_pieces::Records;
+use hh_records::ReadRecords;
 use hh_rows::condensed_rows_text;
 use hh_stream::Key;
 use itoa::Buffer;

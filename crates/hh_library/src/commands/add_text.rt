@@ -9,7 +9,7 @@ ghost use Rattle.hh_commands.specs.Files.{Refuses, StopsAtHead, file_of};
 use crate::commands::add::add_items_by;
 use hh_commands::file_of;
 use hh_faults::ToolError;
-use hh_records::read_stream;
+use hh_pieces::read_stream;
 use hh_stream::{KeyHash, Stream};
 use std::alloc::{AllocError, Global};
 

@@ -9,7 +9,7 @@ use crate::commands::confirm::confirm_records;
 use hh_commands::summary_in;
 use hh_counters::is_threshold;
 use hh_faults::ToolError;
-use hh_records::Records;
+use hh_pieces::Records;
 use hh_stream::KeyHash;
 use std::alloc::Global;
 use std::io::Read;

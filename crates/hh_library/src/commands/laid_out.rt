@@ -22,7 +22,8 @@ use hh_commands::{
 use hh_counters::laws::{candidates_suffice, misra_gries_is_honest};
 use hh_counters::{Candidates, Heavy, MAX_K};
 use hh_faults::{TextError, ToolError};
-use hh_records::{Layout, ReadRecords, read_texts};
+use hh_pieces::read_texts;
+use hh_records::{Layout, ReadRecords};
 use hh_rows::{RowOptions, printed_text};
 use hh_stream::{KeyHash, Stream, TakeItems, in_range};
 use std::alloc::Global;

@@ -22,7 +22,7 @@ use hh_commands::{
     table_bytes_from,
 };
 use hh_faults::ToolError;
-use hh_records::Records;
+use hh_pieces::Records;
 use std::alloc::Global;
 use std::io::Read;
 

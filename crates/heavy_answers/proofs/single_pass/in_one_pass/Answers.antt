@@ -1,6 +1,7 @@
 use Rattle.std.proofs.Common.{inr}
 use Rattle.std.proofs.lemmas.Result.{err_from_is_err_and}
-use Rattle.hh_records.specs.Layouts.{records_known, texts_known}
+use Rattle.hh_records.specs.Layouts.{texts_known}
+use Rattle.hh_pieces.specs.Texts.{records_known}
 use Rattle.heavy_answers.proofs.AnswerLemmas.{if_err_more, if_ok_more}
 use Rattle.heavy_answers.proofs.single_pass.in_one_pass.Goals as goal
 

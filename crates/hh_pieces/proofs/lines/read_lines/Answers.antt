@@ -23,7 +23,7 @@ loop-from-init g c = (
     omega arith,
     All-from_recursion Weighs [] tt,
     refl,
-    lines-none c.args.layout.now (line_parts (part_said c.args.layout.now.part) c.args.cut) (g.T.TakeItems.weight_taken c.args.taker.now) c.args.text.now,
+    lines-none c.args.layout.now (line_parts (part_said c.args.layout.now.part) c.args.cut) c.args.before (g.T.TakeItems.weight_taken c.args.taker.now) c.args.text.now,
   ),
 )
 
@@ -32,7 +32,7 @@ returns-in_err-take_parts-clause-refused g c =
     let p = err_from_is_err_and c.from_residual.result c.from_residual.ensures.1 in
     let (xs, total, weigh, made, so_far) = c.loop-from.invariant.2 in
     let line = c.parts_from-end.ensures in
-    rw (p.1, p.2) (lines-refused c.args.layout.now (line_parts (part_said c.args.layout.now.part) c.args.cut) (g.T.TakeItems.weight_taken c.args.taker.now) c.args.text.now
+    rw (p.1, p.2) (lines-refused c.args.layout.now (line_parts (part_said c.args.layout.now.part) c.args.cut) c.args.before (g.T.TakeItems.weight_taken c.args.taker.now) c.args.text.now
     c.loop-from.from c.parts_from-end.result.1 xs c.loop-from.number line.after line.within line.end so_far c.if-from-end.true
     c.in_err-take_parts.field-0.0 (rw (← total) (rw (rw line.parts at c.key_parts-parts.ensures) at c.in_err-take_parts.ensures.refused)))
 
@@ -52,7 +52,7 @@ loop-from-preserved g c =
               All-append Weighs xs t.xs weigh t.positive,
               t.taken ∙ ap (λ taker. fold g.T.TakeItems.with_item taker t.xs) made
                   ∙ sym (fold-append g.T.TakeItems.with_item c.args.taker.now xs t.xs),
-              lines-more c.args.layout.now (line_parts (part_said c.args.layout.now.part) c.args.cut) (g.T.TakeItems.weight_taken c.args.taker.now) c.args.text.now
+              lines-more c.args.layout.now (line_parts (part_said c.args.layout.now.part) c.args.cut) c.args.before (g.T.TakeItems.weight_taken c.args.taker.now) c.args.text.now
                   c.loop-from.from c.parts_from-end.result.1 xs c.loop-from.number line.after line.within line.end so_far w.if-from-end.true t.xs
                   (rw (← total) (rw (rw line.parts at w.key_parts-parts.ensures) at t.given)),
             ),
@@ -66,7 +66,7 @@ loop-from-preserved g c =
               total,
               weigh,
               made,
-              lines-blank c.args.layout.now (line_parts (part_said c.args.layout.now.part) c.args.cut) (g.T.TakeItems.weight_taken c.args.taker.now) c.args.text.now
+              lines-blank c.args.layout.now (line_parts (part_said c.args.layout.now.part) c.args.cut) c.args.before (g.T.TakeItems.weight_taken c.args.taker.now) c.args.text.now
                   c.loop-from.from c.parts_from-end.result.1 xs c.loop-from.number line.after line.within line.end so_far
                   (omega (arith, w.if-from-end.false)),
             ),

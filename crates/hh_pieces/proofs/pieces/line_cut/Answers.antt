@@ -1,4 +1,4 @@
-use Rattle.std.proofs.Common.{◌∙◌, ap, None, Some, map, sym}
+use Rattle.std.proofs.Common.{◌∙◌, ap, None, map, sym}
 use Rattle.hh_records.specs.Formats.{fields_by, part_said}
 use Rattle.hh_records.specs.Layouts.{parts_by}
 use Rattle.hh_records.specs.Streams.{Fields, Parts}
@@ -16,6 +16,6 @@ returns-then-has_pairs-clause-parts c = λ bytes lines rows.
     let part = part_said c.args.layout.now.part in
     let parts : Fields → Parts = λ r. parts_by None part (fields_by c.args.layout.now.format names r) in
     read
-    ∙ ap (λ rs. Some (map parts rs)) rows
-    ∙ ap Some (c.if-not-has_plain_lines.ensures.parts part names lines)
-    ∙ ap (λ cut. Some (map (line_parts part cut) lines)) (sym c.cut_of.ensures)
+    ∙ ap (map parts) rows
+    ∙ c.if-not-has_plain_lines.ensures.parts part names lines
+    ∙ ap (λ cut. map (line_parts part cut) lines) (sym c.cut_of.ensures)

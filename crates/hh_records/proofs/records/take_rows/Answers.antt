@@ -15,7 +15,7 @@ Weighs e = 0 < e.1
 
 pub loop-number-init : goal.loop-number-init
 loop-number-init g c =
-    let text = c.requires.text in (
+    let text = c.requires.ready in (
       text.untrimmed,
       text.ready,
       text.flexible,
@@ -28,7 +28,7 @@ loop-number-init g c =
         refl,
         read-start (reader_config c.args.rows.now) (parts_at (chosen_places c.args.chosen.now)) c.args.layout.now
             (reader_state c.args.rows.now) c.args.before (g.T.TakeItems.weight_taken c.args.taker.now)
-            (source_of (λ r. g.R.Read.remaining r.inner) c.args.rows.now),
+            (source_of g.R.Read.remaining c.args.rows.now),
       ),
     )
 
@@ -41,9 +41,9 @@ returns-in-Ok-false-clause-items g c =
       xs = xs;
       given = read-end (reader_config c.args.rows.now) (parts_at (chosen_places c.args.chosen.now))
           c.args.layout.now (reader_state c.args.rows.now) c.args.before (g.T.TakeItems.weight_taken c.args.taker.now)
-          (λ r. g.R.Read.remaining r.inner) c.loop-number.rows c.read_byte_record.new.self _ xs c.loop-number.number inv.3 _
+          g.R.Read.remaining c.loop-number.rows c.read_byte_record.new.self _ xs c.loop-number.number inv.3 _
           (between-known (reader_state c.args.rows.now)
-          (source_of (λ r. g.R.Read.remaining r.inner) c.args.rows.now)) so_far r;
+          (source_of g.R.Read.remaining c.args.rows.now)) so_far r;
       positive = weigh;
       weight = total;
       taken = made;
@@ -55,12 +55,12 @@ loop-number-preserved g c =
     let (xs, total, weigh, made, so_far) = inv.5 in
     let e = c.in-Ok-true.ensures in
     let r = rw c.in-Ok-true.field-0-test at (e.reads inv.0 inv.1) in
-    let t = c.in_ok-take_record.ensures.taken in (
+    let t = c.in_ok-take_row.ensures.taken in (
       r.3 ∙ inv.0,
       inl (e.ready inv.0),
       e.flexible ∙ inv.2,
       r.2 ∙ inv.3,
-      c.in_ok-take_record.ensures.bounded,
+      c.in_ok-take_row.ensures.bounded,
       (
         xs ++ t.xs,
         omega (arith, t.weight, total, sum_by-append (λ (d : Entry). d.1) xs t.xs),
@@ -69,20 +69,20 @@ loop-number-preserved g c =
             ∙ sym (fold-append g.T.TakeItems.with_item c.args.taker.now xs t.xs),
         read-more (reader_config c.args.rows.now) (parts_at (chosen_places c.args.chosen.now))
             c.args.layout.now (reader_state c.args.rows.now) c.args.before (g.T.TakeItems.weight_taken c.args.taker.now)
-            (λ r. g.R.Read.remaining r.inner) c.loop-number.rows c.read_byte_record.new.self _ xs c.loop-number.number inv.3 _ t.xs so_far r
+            g.R.Read.remaining c.loop-number.rows c.read_byte_record.new.self _ xs c.loop-number.number inv.3 _ t.xs so_far r
             (rw (← total) t.given),
       ),
     )
 
-pub returns-in_err-take_record-clause-refused : goal.returns-in_err-take_record-clause-refused
-returns-in_err-take_record-clause-refused g c =
+pub returns-in_err-take_row-clause-refused : goal.returns-in_err-take_row-clause-refused
+returns-in_err-take_row-clause-refused g c =
     let p = err_from_is_err_and c.from_residual.result c.from_residual.ensures.1 in
     let inv = c.loop-number.invariant in
     let (xs, total, weigh, made, so_far) = inv.5 in
     let r = rw c.in-Ok-true.field-0-test at (c.in-Ok-true.ensures.reads inv.0 inv.1) in
     rw (p.1, p.2) (read-refused (reader_config c.args.rows.now) (parts_at (chosen_places c.args.chosen.now))
     c.args.layout.now (reader_state c.args.rows.now) c.args.before (g.T.TakeItems.weight_taken c.args.taker.now)
-    (λ r. g.R.Read.remaining r.inner) c.loop-number.rows c.read_byte_record.new.self _ xs c.loop-number.number inv.3 _ _
+    g.R.Read.remaining c.loop-number.rows c.read_byte_record.new.self _ xs c.loop-number.number inv.3 _ _
     (between-known (reader_state c.args.rows.now)
-    (source_of (λ r. g.R.Read.remaining r.inner) c.args.rows.now)) so_far r
-    (rw (← total) c.in_err-take_record.ensures.refused))
+    (source_of g.R.Read.remaining c.args.rows.now)) so_far r
+    (rw (← total) c.in_err-take_row.ensures.refused))

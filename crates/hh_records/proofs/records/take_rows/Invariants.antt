@@ -16,8 +16,8 @@ invariant-loop-number g l = (reader_trim l.rows ≡ trim.None) × Ready l.rows �
     × All (λ (e : Entry). 0 < e.1) xs × (l.taker ≡ fold g.T.TakeItems.with_item l.initial.taker xs)
     × ReadSoFar (reader_config l.fn.rows) (parts_at (chosen_places l.fn.chosen)) l.fn.layout
     (reader_state l.fn.rows) l.fn.before (g.T.TakeItems.weight_taken l.initial.taker)
-    (between (reader_state l.fn.rows) (source_of (λ r. g.R.Read.remaining r.inner) l.fn.rows))
-    (source_of (λ r. g.R.Read.remaining r.inner) l.rows) (reader_state l.rows) xs l.number)
+    (between (reader_state l.fn.rows) (source_of g.R.Read.remaining l.fn.rows))
+    (source_of g.R.Read.remaining l.rows) (reader_state l.rows) xs l.number)
 
 abbrev pub decreases-loop-number : goal.decreases-loop-number
 decreases-loop-number g l = 18446744073709551615 - l.number

@@ -1,4 +1,4 @@
-use Rattle.hh_records.specs.Layouts.{records_known}
+use Rattle.hh_pieces.specs.Texts.{records_known}
 use Rattle.hh_reports.specs.Report.{bad_option}
 use Rattle.hh_reports.proofs.ReportFacts.{fault_is}
 use Rattle.hh_reports.proofs.report.reported.Goals as goal

@@ -2,7 +2,7 @@ use Rattle.std.proofs.Common.{◌≡◌, IfOk, ap, false, subst}
 use Rattle.std.specs.Prelude.{IfErr}
 use Rattle.hh_commands.specs.Condense.{CondensePartRefused, CondensesRows}
 use Rattle.hh_commands.specs.declared.compared.Comparison.{Comparison}
-use Rattle.hh_records.specs.Layouts.{records_known}
+use Rattle.hh_pieces.specs.Texts.{records_known}
 use Rattle.hh_records.specs.Streams.{text_known}
 use Rattle.hh_library.proofs.UnaskedFacts.{condense_unasked}
 use Rattle.hh_library.proofs.commands.plain.condense_bytes.Goals as goal

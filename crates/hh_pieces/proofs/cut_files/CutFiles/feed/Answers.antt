@@ -1,4 +1,4 @@
-use Rattle.hh_pieces.proofs.ChunkFacts.{on-ok}
+use Rattle.hh_pieces.proofs.TakesFacts.{on-ok}
 use Rattle.hh_pieces.proofs.FileFacts.{piece-fed}
 use Rattle.hh_pieces.proofs.cut_files.CutFiles.feed.Goals as goal
 

@@ -1,5 +1,0 @@
-use Rattle.hh_output.proofs.StringFacts.{strings_tell_fields_apart}
-use Rattle.hh_output.proofs.laws.strings_tell_fields_apart.Goals as goal
-
-pub returns : goal.returns
-returns c = strings_tell_fields_apart

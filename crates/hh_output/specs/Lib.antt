@@ -1,4 +1,0 @@
-pub mod Json
-pub mod Laws
-pub mod Outputs
-pub mod Readers
