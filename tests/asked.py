@@ -1,7 +1,8 @@
 #!/usr/bin/env python3
 """Tells whether each wrong body that tests/asked.txt names is there, changes code by one fault, and was refused by a clause: so
-that none is struck, weakened or refused for another reason to pay for something else. What the prover said of them stands in
-the log of `rt ci` that .ci/run names in HEAVY_GATE_LOG; where there is none, that part is skipped.
+that none is struck, weakened or refused for another reason to pay for something else. All others have to change code that
+is there, too. What the prover said of the edits stands in the log of `rt ci` that .ci/run names in HEAVY_GATE_LOG; where there
+is none, that part is skipped.
 
 usage: tests/asked.py
 """
@@ -61,6 +62,15 @@ class Asked(programs.Checks):
         self.check("there are names", len(names) > 40, names)
         self.check("each stands once", len(set(names)) == len(names), names)
         for name in names:
+            why = why_bad(name, programs.TOP, self.room)
+            self.check(name, not why, why)
+
+    def test_all_edits(self) -> None:
+        """Each edit of the repository can be applied: what it changes stands there once."""
+        edits = sorted(programs.TOP.glob("crates/*/must-fail/*.edit"))
+        self.check("there are edits", len(edits) > 100, len(edits))
+        for edit in edits:
+            name = f"{edit.parent.parent.name}/{edit.stem}"
             why = why_bad(name, programs.TOP, self.room)
             self.check(name, not why, why)
 

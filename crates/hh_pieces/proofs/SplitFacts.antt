@@ -211,7 +211,7 @@ module _ (layout : Layout) (read : List ℕ → Parts) (before t : ℕ) (text : 
   abbrev parts : List (List ℕ) → List Parts
   parts lines = map read lines
 
-  -- so many lines before a place were read, and add these items
+  -- the lines before a place were read, and add these items; with them there are number records
   pub record LinesRead (from : ℕ) (xs : List Entry) (number : ℕ) : Type 0 where
     pub lines : List (List ℕ)
     pub all : filled_lines text ≡ lines ++ filled_lines (drop from text)

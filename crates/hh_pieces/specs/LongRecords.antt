@@ -46,12 +46,12 @@ action_of effect.Copy = act.Copy
 action_of effect.EndField = act.EndField
 action_of effect.EndRecord = act.EndRecord
 
--- the first of these, no more than so many where there is a number
+-- the first of these: where there is a number, no more than that
 abbrev pub first_ones : {A : Type 0} → Option ℕ → List A → List A
 first_ones None xs = xs
 first_ones (Some n) xs = take n xs
 
--- whether one more is kept behind so many
+-- whether one more is kept behind count others
 abbrev pub is_kept : Option ℕ → ℕ → Bool
 is_kept None count = true
 is_kept (Some n) count = nat_lt count n

@@ -88,8 +88,8 @@ piece_reading layout columns bytes =
 abbrev pub parts_in : Layout → Places → List ℕ → List Parts
 parts_in layout at bytes = map (parts_at at) (rows_in layout bytes)
 
--- the records of a piece add these items after a total of t and so many others, with which they are
--- this many
+-- the records of a piece add these items after a total of t and the records before, with which there
+-- are after of them
 abbrev pub PieceAdds : Layout → Places → ℕ → ℕ → List ℕ → List Entry → ℕ → Type 0
 PieceAdds layout at before t bytes xs after =
     (items_after layout (before + 1) t (parts_in layout at bytes) ≡ Ok xs)

@@ -18,8 +18,8 @@ bytes_left remaining text = prepend_known (held_in text.window) (remaining text.
 abbrev pub parts_left : {R : Type 0} → (R → Option (List ℕ)) → Layout → OpenText R → Option (List Parts)
 parts_left remaining layout text = option_map (parts_in layout text.columns) (bytes_left remaining text)
 
--- where all bytes are known, records from some of them on add these items after a total of t and so many
--- other records, with which they are this many, and these bytes are left
+-- where all bytes are known, the first records of some of them add these items after a total of t and
+-- the records before, with which there are after of them, and these bytes are left
 abbrev pub LeavesBytes : Layout → Places → ℕ → ℕ → Option (List ℕ) → List Entry → ℕ → Option (List ℕ) → Type 0
 LeavesBytes layout at before t None xs after left = ⊤
 LeavesBytes layout at before t (Some bytes) xs after None = ⊥

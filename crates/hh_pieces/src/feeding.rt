@@ -30,8 +30,8 @@ fn piece_fault(error: TextError) -> PieceFault
     }
 }
 
-/// Hands the items of a piece to `taker`, of which `window` holds the start and `piece` has the rest,
-/// as [`feed_left`] does.
+/// Hands the items of a piece to `taker`, of which `window` holds the start and `piece` has the
+/// rest, as [`feed_left`] does.
 fn feed_by<R: Read, T: TakeItems>(
     alloc: Global,
     layout: &Layout,

@@ -136,9 +136,9 @@ fn parts_from(
     (parts, end)
 }
 
-/// Hands on what each line of a text adds, blank ones aside, and counts all records, with the number
-/// of those `before`, and those that are `bad`. `cut` says how a line is cut; of its key the part of
-/// `layout` counts.
+/// Hands on what each line of `text` adds, blank ones aside, and counts all records, with the
+/// number of those `before`, and those that are `bad`. `cut` says how a line is cut; of its key the
+/// part of `layout` counts.
 pub(crate) fn read_lines<T: TakeItems>(
     alloc: Global,
     text: &[u8],

@@ -140,8 +140,8 @@ impl Limits {
         bytes: None,
     };
 
-    /// What is kept of records that are read as `chosen` says, and whose weights have at most so
-    /// many `decimals`: all, or what decides what they add.
+    /// Gives how much is kept of records that are read as `chosen` says, by a layout with these
+    /// `decimals`: all, or what decides what they add.
     pub(crate) fn of(chosen: &ChosenLayout, decimals: u8) -> Limits
         ensures { (layout : Layout) (t : ℕ) (fs : Fields) → layout.decimals ≡ decimals
             → adds layout t (parts_at (chosen_places chosen.now) (spec.kept_of result fs))

@@ -64,7 +64,7 @@ impl Columns {
         Ok(Columns { chosen })
     }
 
-    // How much is kept of a record that they read, whose weight has at most so many `decimals`.
+    // Gives how much is kept of a record that they read, of a layout with these `decimals`.
     pub(crate) fn limits(&self, decimals: u8) -> Limits
         ensures { (layout : Layout) (t : ℕ) (fs : Fields) → layout.decimals ≡ decimals
             → adds layout t (parts_at self.now (kept_of result fs))
@@ -222,7 +222,7 @@ fn plain_text<'t>(
     }
 }
 
-/// Hands on what the records of a piece of a text add, which are whole, by its `columns`, and counts
+/// Hands on what the whole records of `piece`, a part of a text, add by its `columns`, and counts
 /// all records, with the number of those `before`, and those that are `bad` and count as the key of
 /// the layout. They are read line by line or, where that can't be, by `csv`.
 pub(crate) fn read_piece<T: TakeItems>(

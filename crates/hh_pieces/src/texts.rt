@@ -55,8 +55,8 @@ pub(crate) struct OpenText<R> {
 }
 
 /// Finds the columns of a text that `window` holds the start of, and `reader` has the rest of: by
-/// its header, where it is to have one, which is read. There are none where it has no record for it.
-/// It gives, too, whether what was read ends outside quotes.
+/// its header, where it is to have one, which is read. There are none where it has no record for
+/// that. It gives, too, whether what was read ends outside quotes.
 pub(crate) fn choose_columns<R: Read>(
     alloc: Global,
     window: &mut Window,
@@ -90,8 +90,8 @@ pub(crate) fn choose_columns<R: Read>(
     Ok((Some(columns), outside))
 }
 
-/// A text whose records are to be read by a layout, after its header where it is to have one. It
-/// has room for `len` bytes at first.
+/// Opens a text whose records `layout` reads, after its header where it is to have one, with room
+/// for `len` bytes at first. There is none where it has no record for the header.
 fn open_text<R: Read + Drop>(
     alloc: Global,
     reader: R,
@@ -157,9 +157,9 @@ fn take_whole<T: TakeItems>(
     Ok(after)
 }
 
-/// Hands on what records at the front of a window add, which `reader` has the rest of, byte by byte,
-/// until the window holds fewer than [`LEAST_HELD`] bytes or the text ends. It counts all records,
-/// with the number of those `before`, and those that are `bad`.
+/// Hands on what records at the front of `window` add, which `reader` has the rest of, byte by
+/// byte, until the window holds fewer than [`LEAST_HELD`] bytes or the text ends. It counts all
+/// records, with the number of those `before`, and those that are `bad`.
 fn take_long<R: Read, T: TakeItems>(
     alloc: Global,
     columns: &Columns,
@@ -357,7 +357,7 @@ fn open_next<R: Read + Drop>(
     Ok(())
 }
 
-/// Opens all texts, each with room for `len` bytes at first, before a record of any of them is read.
+/// Opens all texts, each with room for `len` bytes at first, before a record of any is read.
 fn open_all<R: Read + Drop>(
     alloc: Global,
     first: R,

@@ -14,7 +14,7 @@ pub(crate) fn zeros(alloc: Global, len: usize) -> Result<Vec<u8>, AllocError>
     vec![in alloc; 0u8; len]
 }
 
-/// A buffer, and which of its bytes are held: so many from a place on.
+/// A buffer, and the place and the number of those of its bytes that are held.
 #[derive(Drop)]
 pub(crate) struct Window {
     bytes: Vec<u8>,
@@ -63,8 +63,9 @@ impl Window {
         self.from = 0;
     }
 
-    // Gets room for one byte more. Bytes are moved to the front where more than they are were removed
-    // before them; a full buffer gets twice as long, or this long where that is less and is enough.
+    // Gets room for one byte more. The bytes are moved to the front where there are fewer of them
+    // than were removed before them. A full buffer gets twice as long, but no longer than `most`
+    // where that is enough.
     pub(crate) fn make_room(&mut self, most: usize) -> Result<(), AllocError>
         ensures held { OnOk result (held_in self.new ≡ held_in self.old) }
         ensures room { OnOk result (self.new.from + self.new.held
