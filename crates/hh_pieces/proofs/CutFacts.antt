@@ -1,8 +1,9 @@
 -- Records of a text that is cut before line feeds.
-use Rattle.std.proofs.Common.{◌≡◌, ◌≤◌, ◌+◌, ◌∷◌, ◌++◌, ◌∙◌, ℕ, suc, zero, List, [], length, Bool, true, false, Option, Some, None, refl, sym, ap, arith, append-nil}
+use Rattle.std.proofs.Common.{◌≡◌, ◌≤◌, ◌+◌, ◌∷◌, ◌++◌, ◌∙◌, ℕ, suc, zero, List, [], length, take, drop, Bool, true, false, Option, Some, None, refl, sym, ap, arith, append-nil}
 use Rattle.std.specs.Prelude.{◌==◌, ◌&&◌, not, if◌then◌else◌}
 use Rattle.std.proofs.lemmas.Bool.{eqb-false, eqb-true, false≢true, ne_eqb}
 use Rattle.std.proofs.lemmas.Grind.{fold-append}
+use Rattle.std.proofs.lemmas.List.{drop-append-le, take-append-drop, take-append-le}
 use Rattle.csv.specs.Machine.{Read, after_end, ends_at_end, ends_with, field_after, fields_after, in_field, is_byte, is_end, next_record, start_field, start_record, step}
 use Rattle.csv.specs.Reading.{is_bom, records, records_from, records_next, strip_bom}
 use Rattle.csv.specs.declared.parser.Config.{Config}
@@ -14,7 +15,7 @@ use Rattle.hh_records.specs.Streams.{Fields}
 use Rattle.hh_stream.specs.Cuttings.{whole_of}
 use Rattle.hh_records.specs.Layouts.{configured}
 use Rattle.hh_pieces.specs.Laws.{FeedsOutsideQuotesAreCuts, PiecesHaveTheRecords}
-use Rattle.hh_pieces.specs.Pieces.{IsCut, begins_with_feed, ends_outside, is_outside, state_after}
+use Rattle.hh_pieces.specs.Pieces.{IsCut, IsCutAt, begins_with_feed, ends_outside, is_outside, state_after}
 
 -- ---- all records of a text, with no bound on their number
 unfoldable pub runs : Config → State → Fields → List ℕ → List ℕ → List Fields
@@ -299,3 +300,15 @@ feeds-cut config [] later outside = tt
 feeds-cut config (a ∷ []) later outside = tt
 feeds-cut config (a ∷ b ∷ rest) later outside =
     (record { outside = outside.0; feed = later.0 }, feeds-cut config (b ∷ rest) later.1 outside.1)
+
+-- a place where the front of a text may be cut is one where the text may be
+pub cut-front : (config : Config) (text : List ℕ) (n at : ℕ) → at ≤ length (take n text)
+    → IsCutAt config (take n text) at → IsCutAt config text at
+cut-front config text n at within cut =
+    let all = sym (take-append-drop n text) in
+    let front : take at text ≡ take at (take n text) = ap (take at) all ∙ take-append-le at (take n text) (drop n text) within in
+    let rest : drop at text ≡ drop at (take n text) ++ drop n text = ap (drop at) all ∙ drop-append-le at (take n text) (drop n text) within in
+    record {
+      outside = ap (ends_outside config) front ∙ cut.outside;
+      feed = ap begins_with_feed rest ∙ feed-append (drop at (take n text)) (drop n text) cut.feed;
+    }

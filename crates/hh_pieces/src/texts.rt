@@ -16,7 +16,7 @@ ghost use Rattle.hh_pieces.specs.Texts.{AllOpen, Chooses, LeavesBytes, Opens, Op
 ghost use Rattle.hh_pieces.specs.Texts.{parts_left, records_known};
 ghost use Rattle.hh_pieces.specs.Windows.{held_in};
 
-use crate::cuts::{ends_outside_quotes, whole_records};
+use crate::cuts::{ends_outside_quotes, records_alike};
 use crate::long_record::{Limits, LongRecord, Syntax};
 use crate::pieces::{Columns, read_piece};
 use crate::window::Window;
@@ -148,13 +148,13 @@ fn take_whole<T: TakeItems>(
         (option_map (parts_in layout.now columns.now) (prepend_known (held_in window.old) rest))
         error) }
 {
-    let Some(count) = whole_records(window.held(), layout.format, layout.delimiter) else {
-        return Ok(before);
-    };
-    let records = &window.held()[..count];
-    let after = read_piece(alloc, layout, columns, records, before, bad, taker)?;
-    window.remove(count);
-    Ok(after)
+    let mut number = before;
+    while let Some(count) = records_alike(window.held(), layout.format, layout.delimiter) {
+        let records = &window.held()[..count];
+        number = read_piece(alloc, layout, columns, records, number, bad, taker)?;
+        window.remove(count);
+    }
+    Ok(number)
 }
 
 /// Hands on what records at the front of `window` add, which `reader` has the rest of, byte by
