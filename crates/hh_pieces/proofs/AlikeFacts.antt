@@ -218,8 +218,8 @@ parts-alike (Some at) part fs gs whole h = by _ _ _ _ (fields-alike fs gs at.0 h
     by (Some xs) (Some ys) (Some v) (Some w) h k =
         (rw (with-whole part xs whole, with-whole part ys whole) (key-alike xs ys h), k)
 
-key-long : (t : ℕ) (k : List ℕ) (w : Option ℕ) → max_key_len < length k → item_of_key t k w ≡ Err cause.KeyTooLong
-key-long t k w h =
+key-long : (k : List ℕ) (w : Option ℕ) → max_key_len < length k → item_of_key k w ≡ Err cause.KeyTooLong
+key-long k w h =
     let some : (length k == 0) ≡ false = ne_eqb (length k) 0 (λ e. omega (arith, e, h)) in
     let long : nat_le (length k) max_key_len ≡ false = lt-leb (length k) max_key_len h in
     rw (some, long) refl
@@ -249,7 +249,7 @@ module _ (layout : Layout) (few : layout.decimals ≤ 255) where
     where
       by : AlikeField p.0 q.0 → adds layout t (Some p) ≡ adds layout t (Some q)
       by (inl e) = rw (e, weight-alike p.1 q.1 h.1) refl
-      by (inr e) = rw (key-long t p.0 (weight_by layout p.1) e.0, key-long t q.0 (weight_by layout q.1) e.1) refl
+      by (inr e) = rw (key-long p.0 (weight_by layout p.1) e.0, key-long q.0 (weight_by layout q.1) e.1) refl
 
 -- ---- the fields behind those that are read
 field-among : (n i : ℕ) (fs : Fields) → i < n → field_at (take n fs) i ≡ field_at fs i

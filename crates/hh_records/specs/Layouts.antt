@@ -1,5 +1,5 @@
 -- Records whose key and weight stand in columns of one's own.
-use Rattle.std.specs.Prelude.{◌≡◌, ◌==◌, ◌&&◌, ◌||◌, ◌+◌, ◌-◌, ◌^◌, ◌<◌, ℕ, Bool, true, false, List, [], ◌∷◌, ◌++◌, length, map, min, not, Option, Some, None, IfSome, option_map, option_and_then, Result, Ok, Err, ⊤, if◌then◌else◌}
+use Rattle.std.specs.Prelude.{◌≡◌, ◌==◌, ◌&&◌, ◌||◌, ◌+◌, ◌-◌, ◌^◌, ◌<◌, nat_le, ℕ, Bool, true, false, List, [], ◌∷◌, ◌++◌, length, map, min, not, Option, Some, None, IfSome, option_map, option_and_then, Result, Ok, Err, ⊤, if◌then◌else◌}
 use Rattle.std.specs.List.{flat_map, position_from}
 use Rattle.std.specs.Option.{option_to_list, option_zip}
 use Rattle.std.specs.Str.{bytes_eq}
@@ -12,7 +12,7 @@ use Rattle.csv.specs.declared.parser.State.{State}
 use Rattle.csv.specs.declared.reader.Reader.{Reader}
 use Rattle.csv.specs.declared.reader.Trim.TheVariants as trim
 use Rattle.hh_stream.specs.Digits.{is_number, value_of}
-use Rattle.hh_stream.specs.Weights.{Bytes, Entry, total_of}
+use Rattle.hh_stream.specs.Weights.{Bytes, Entry, max_total, total_of}
 use Rattle.hh_records.specs.Decimals.{units_of}
 use Rattle.hh_records.specs.Formats.{Names, Part, byte_between, fields_by, has_quotes, is_json, is_whole_field, names_said, part_of, part_said, with_part}
 use Rattle.hh_records.specs.Streams.{Fields, Known, Parts, Reading, ReadsAs, item_of_key, parts_of}
@@ -103,14 +103,14 @@ added allow (Err c) = Err c
 abbrev pub weight_by : Layout → Option (List ℕ) → Option ℕ
 weight_by layout f = units_of layout.decimals (weight_read layout.allow_zero f)
 
--- the item of a record after a total of t, or the first test that it fails
-abbrev pub item_by : Layout → ℕ → Parts → Result Entry BadRecordCause
-item_by layout t None = Err cause.FieldCount
-item_by layout t (Some p) = item_of_key t p.0 (weight_by layout p.1)
+-- the item of a record, or the first test that it fails
+abbrev pub item_by : Layout → Parts → Result Entry BadRecordCause
+item_by layout None = Err cause.FieldCount
+item_by layout (Some p) = item_of_key p.0 (weight_by layout p.1)
 
--- what a record adds by its own key and weight after a total of t, or the first test that it fails
-abbrev pub adds_itself : Layout → ℕ → Parts → Result (List Entry) BadRecordCause
-adds_itself layout t p = added layout.allow_zero (item_by layout t p)
+-- what a record adds by its own key and weight, or the first test that it fails
+abbrev pub adds_itself : Layout → Parts → Result (List Entry) BadRecordCause
+adds_itself layout p = added layout.allow_zero (item_by layout p)
 
 -- the items of a key of this weight: none where it weighs 0
 abbrev pub items_of_weight : Bytes → ℕ → List Entry
@@ -120,22 +120,30 @@ items_of_weight key w = if w == 0 then [] else (key, w) ∷ []
 abbrev pub bad_key : Layout → Option Bytes
 bad_key layout = option_map (λ bad. bad.key.items) layout.bad_as
 
--- what a record adds after a total of t that fails a test: it counts as a record of this key and no
--- weight's field, so of weight 1, but where the total would be too large, which depends on the records
--- before it
-abbrev pub adds_instead : Layout → ℕ → Option Bytes → BadRecordCause → Result (List Entry) BadRecordCause
-adds_instead layout t None c = Err c
-adds_instead layout t (Some key) cause.TotalTooLarge = Err cause.TotalTooLarge
-adds_instead layout t (Some key) c = adds_itself layout t (Some (key, None))
+-- what a record adds that fails a test: it counts as a record of this key and no weight's field, so of
+-- weight 1
+abbrev pub adds_instead : Layout → Option Bytes → BadRecordCause → Result (List Entry) BadRecordCause
+adds_instead layout None c = Err c
+adds_instead layout (Some key) c = adds_itself layout (Some (key, None))
 
--- what a record adds after a total of t, where this is what it adds itself
-abbrev pub counted_as : Layout → ℕ → Result (List Entry) BadRecordCause → Result (List Entry) BadRecordCause
-counted_as layout t (Ok es) = Ok es
-counted_as layout t (Err c) = adds_instead layout t (bad_key layout) c
+-- what a record adds, where this is what it adds itself
+abbrev pub counted_as : Layout → Result (List Entry) BadRecordCause → Result (List Entry) BadRecordCause
+counted_as layout (Ok es) = Ok es
+counted_as layout (Err c) = adds_instead layout (bad_key layout) c
 
--- what a record adds after a total of t, or the first test that it fails
+-- what a record adds whatever stands before it, or the first test that it fails
+abbrev pub adds_alone : Layout → Parts → Result (List Entry) BadRecordCause
+adds_alone layout p = counted_as layout (adds_itself layout p)
+
+-- what is added after a total of t, unless the total is too large with it
+abbrev pub added_after : ℕ → Result (List Entry) BadRecordCause → Result (List Entry) BadRecordCause
+added_after t (Ok es) = if nat_le (t + total_of es) max_total then Ok es else Err cause.TotalTooLarge
+added_after t (Err c) = Err c
+
+-- what a record adds after a total of t, or the first test that it fails: that the total is too large
+-- is the last, and such a record is refused though bad ones count as a key
 abbrev pub adds : Layout → ℕ → Parts → Result (List Entry) BadRecordCause
-adds layout t p = counted_as layout t (adds_itself layout t p)
+adds layout t p = added_after t (adds_alone layout p)
 
 abbrev pub joined : List Entry → Reading → Reading
 joined es (Ok xs) = Ok (es ++ xs)

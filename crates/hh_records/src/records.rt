@@ -1,6 +1,6 @@
 //! Records of keys and weights, read one by one.
 
-ghost use Rattle.std.specs.Prelude.{length, map, Err, Some, ◌≡◌, ◌+◌, ◌<◌, ◌≤◌, ◌^◌, false, true, min, Ok, MatchOption, IfSome, IfOk, IfErr, OnOk, option_map};
+ghost use Rattle.std.specs.Prelude.{ℕ, length, map, Err, Some, ◌≡◌, ◌+◌, ◌<◌, ◌≤◌, ◌^◌, false, true, min, Ok, MatchOption, IfSome, IfOk, IfErr, OnOk, option_map};
 ghost use Rattle.csv.specs.Reading.{reader_config, reader_state, source_of, stops_reader, strip_bom};
 ghost use Rattle.csv.specs.declared.parser.State.TheVariants as st;
 ghost use Rattle.csv.specs.Records.{fields_of};
@@ -10,7 +10,7 @@ ghost use Rattle.hh_stream.specs.Digits.{is_number, value_of};
 ghost use Rattle.hh_stream.specs.Taking.{Takes};
 ghost use Rattle.hh_records.specs.Formats.{part_said, with_part};
 ghost use Rattle.hh_records.specs.Layouts.{parts_by, chosen_columns};
-ghost use Rattle.hh_records.specs.Layouts.{IsReady, RecordRefused, RowsRefused, adds, adds_instead, adds_itself, bad_key, chosen_places, config_of, fields_at, is_hyphen, items_after, items_of_weight, key_of, parts_at, rows_in, rows_left, weight_at, weight_by};
+ghost use Rattle.hh_records.specs.Layouts.{IsReady, RecordRefused, RowsRefused, adds, adds_instead, added_after, adds_itself, bad_key, chosen_places, config_of, fields_at, is_hyphen, items_after, items_of_weight, key_of, parts_at, rows_in, rows_left, weight_at, weight_by};
 ghost use Rattle.hh_records.specs.Streams.{fault_of, parts_of};
 
 use crate::decimals::{scaled, units_in};
@@ -81,23 +81,16 @@ fn parts_of(row: &ByteRecord) -> Option<(&[u8], Option<&[u8]>)>
     Some((key, row.get(1)))
 }
 
-/// Gives the weight that a record adds to its key after this `total`, which is 0 only where that is
-/// allowed, or the first test that the record fails.
+/// Gives the weight that a record adds to its key, which is 0 only where that is allowed, or the
+/// first test that the record fails.
 #[inline(always)]
-fn weight_added(
-    key: &[u8],
-    field: Option<&[u8]>,
-    total: u64,
-    layout: &Layout,
-) -> Result<u64, BadRecordCause>
-    requires bounded { total ≤ max_total }
-    ensures weight { IfOk result (λ weight. adds_itself layout.now total
-        (Some (key.now, option_map (λ f. f.now) field.entry))
-        ≡ Ok (items_of_weight key.now weight)) }
-    ensures bounded { IfOk result (λ weight. total + weight ≤ max_total) }
+fn weight_added(key: &[u8], field: Option<&[u8]>, layout: &Layout) -> Result<u64, BadRecordCause>
+    ensures weight { IfOk result (λ weight. (w : ℕ) × (weight ≡ min w u64.MAX)
+        × (adds_itself layout.now (Some (key.now, option_map (λ f. f.now) field.entry))
+        ≡ Ok (items_of_weight key.now w))) }
     ensures some { IfOk result (λ _. 0 < length key.now) }
     ensures few { IfOk result (λ _. length key.now ≤ max_key_len) }
-    ensures refused { IfErr result (λ cause. adds_itself layout.now total
+    ensures refused { IfErr result (λ cause. adds_itself layout.now
         (Some (key.now, option_map (λ f. f.now) field.entry)) ≡ Err cause) }
 {
     if key.is_empty() {
@@ -112,32 +105,39 @@ fn weight_added(
     if weight == 0 && !layout.allow_zero {
         return Err(BadRecordCause::ZeroWeight);
     }
-    if weight > MAX_TOTAL - total {
-        return Err(BadRecordCause::TotalTooLarge);
-    }
     Ok(weight)
 }
 
-/// Hands on an item of `key`, or nothing where its `weight` is 0.
+/// Hands on an item of `key` that record `number` adds, or nothing where its `weight` is 0. It is
+/// refused where the total would be too large.
 #[inline(always)]
 fn take_weight<T: TakeItems>(
     alloc: Global,
     taker: &mut T,
+    number: u64,
     key: &[u8],
     weight: u64,
-) -> Result<(), AllocError>
+) -> Result<(), TextError>
     requires some { 0 < length key.now }
     requires few { length key.now ≤ max_key_len }
-    requires bounded { T.weight_taken taker.old + weight ≤ max_total }
-    ensures taken { OnOk result
+    requires bounded { T.weight_taken taker.old ≤ max_total }
+    ensures taken { (w : ℕ) → weight ≡ min w u64.MAX → OnOk result
         (Takes T.with_item T.weight_taken taker.old taker.new (λ xs.
-        xs ≡ items_of_weight key.now weight)) }
+        added_after (T.weight_taken taker.old) (Ok (items_of_weight key.now w)) ≡ Ok xs)) }
     ensures bounded { OnOk result (T.weight_taken taker.new ≤ max_total) }
+    ensures refused { (w : ℕ) → weight ≡ min w u64.MAX → IfErr result (RecordRefused number
+        (added_after (T.weight_taken taker.old) (Ok (items_of_weight key.now w)))) }
 {
+    if weight > MAX_TOTAL - taker.total() {
+        return Err(TextError::BadRecord {
+            number,
+            cause: BadRecordCause::TotalTooLarge,
+        });
+    }
     if weight == 0 {
         return Ok(());
     }
-    taker.take(alloc, key, weight)
+    Ok(taker.take(alloc, key, weight)?)
 }
 
 /// Hands on what record `number` adds that fails a test of this `cause`: where bad records count as
@@ -154,22 +154,22 @@ fn take_bad<T: TakeItems>(
     requires bounded { T.weight_taken taker.old ≤ max_total }
     ensures taken { OnOk result
         (Takes T.with_item T.weight_taken taker.old taker.new (λ xs.
-        adds_instead layout.now (T.weight_taken taker.old) (bad_key layout.now) cause ≡ Ok xs)) }
+        added_after (T.weight_taken taker.old) (adds_instead layout.now (bad_key layout.now) cause)
+        ≡ Ok xs)) }
     ensures bounded { OnOk result (T.weight_taken taker.new ≤ max_total) }
     ensures refused { IfErr result (RecordRefused number
-        (adds_instead layout.now (T.weight_taken taker.old) (bad_key layout.now) cause)) }
+        (added_after (T.weight_taken taker.old)
+        (adds_instead layout.now (bad_key layout.now) cause))) }
 {
     let Some(bad_as) = &layout.bad_as else {
         return Err(TextError::BadRecord { number, cause });
     };
-    if matches!(cause, BadRecordCause::TotalTooLarge) {
-        return Err(TextError::BadRecord { number, cause });
-    }
     let key = bad_as.key.as_slice();
-    match weight_added(key, None, taker.total(), layout) {
+    match weight_added(key, None, layout) {
         Ok(weight) => {
+            take_weight(alloc, taker, number, key, weight)?;
             *bad = bad.saturating_add(1);
-            Ok(take_weight(alloc, taker, key, weight)?)
+            Ok(())
         }
         Err(cause) => Err(TextError::BadRecord { number, cause }),
     }
@@ -206,8 +206,8 @@ pub fn take_parts<T: TakeItems>(
             layout,
         );
     };
-    match weight_added(key, field, taker.total(), layout) {
-        Ok(weight) => Ok(take_weight(alloc, taker, key, weight)?),
+    match weight_added(key, field, layout) {
+        Ok(weight) => take_weight(alloc, taker, number, key, weight),
         Err(cause) => take_bad(alloc, taker, number, cause, bad, layout),
     }
 }
