@@ -12,7 +12,7 @@ use Rattle.hh_faults.specs.declared.records.BadRecordCause.{BadRecordCause}
 use Rattle.hh_faults.specs.declared.records.BadRecordCause.TheVariants as cause
 use Rattle.hh_pieces.specs.Laws.{PiecesAreRead}
 use Rattle.hh_records.specs.Formats.{byte_between, has_quotes}
-use Rattle.hh_records.specs.Layouts.{Places, added_after, adding_next, adds, adds_alone, gathered, headed_parts, items_after, joined, parts_at, places_in, text_parts, texts_parts}
+use Rattle.hh_records.specs.Layouts.{Columns, added_after, adding_next, adds, adds_alone, gathered, headed_parts, items_after, joined, parts_at, columns_in, text_parts, texts_parts}
 use Rattle.hh_pieces.specs.Pieces.{InPieces, IsInPieces, all_pieces, first_piece, piece_parts, piece_reading, text_of, with_columns}
 use Rattle.hh_records.specs.Layouts.{columns_of, first_of, rows_in}
 use Rattle.hh_records.specs.Streams.{Fields, Parts, Reading}
@@ -92,53 +92,53 @@ module _ (layout : Layout) where
   parts_in : List Fields → Option (List Parts)
   parts_in rows =
       if layout.has_header then headed_parts layout rows
-      else option_map (λ at. map (parts_at at) rows) (places_in layout [])
+      else option_map (λ at. map (parts_at layout at) rows) (columns_in layout [])
 
   -- records after those that have the header are read by its columns
-  rows-more : (rows : List Fields) (at : Places) → columns_of layout rows ≡ Some at
+  rows-more : (rows : List Fields) (at : Columns) → columns_of layout rows ≡ Some at
       → (ps : List Parts) × (parts_in rows ≡ Some ps)
-      × ((more : List Fields) → parts_in (rows ++ more) ≡ Some (ps ++ map (parts_at at) more))
+      × ((more : List Fields) → parts_in (rows ++ more) ≡ Some (ps ++ map (parts_at layout at) more))
   unfolding parts_in
   rows-more rows at e = by layout.has_header rows e
     where
       by : (b : Bool) (rows : List Fields)
-          → option_and_then (places_in layout) (if b then first_of rows else Some []) ≡ Some at
+          → option_and_then (columns_in layout) (if b then first_of rows else Some []) ≡ Some at
           → (ps : List Parts)
-          × ((if b then headed_parts layout rows else option_map (λ at. map (parts_at at) rows) (places_in layout [])) ≡ Some ps)
+          × ((if b then headed_parts layout rows else option_map (λ at. map (parts_at layout at) rows) (columns_in layout [])) ≡ Some ps)
           × ((more : List Fields)
-          → (if b then headed_parts layout (rows ++ more) else option_map (λ at. map (parts_at at) (rows ++ more)) (places_in layout []))
-          ≡ Some (ps ++ map (parts_at at) more))
+          → (if b then headed_parts layout (rows ++ more) else option_map (λ at. map (parts_at layout at) (rows ++ more)) (columns_in layout []))
+          ≡ Some (ps ++ map (parts_at layout at) more))
       by true [] e = cc e
       by true (h ∷ rows) e = (
-        map (parts_at at) rows,
+        map (parts_at layout at) rows,
         rw e refl,
-        λ more. rw (e, map-append (parts_at at) rows more) refl,
+        λ more. rw (e, map-append (parts_at layout at) rows more) refl,
       )
       by false rows e = (
-        map (parts_at at) rows,
+        map (parts_at layout at) rows,
         rw e refl,
-        λ more. rw (e, map-append (parts_at at) rows more) refl,
+        λ more. rw (e, map-append (parts_at layout at) rows more) refl,
       )
 
-  no-parts : (at : Places) → columns_of layout [] ≡ Some at → parts_in [] ≡ Some []
+  no-parts : (at : Columns) → columns_of layout [] ≡ Some at → parts_in [] ≡ Some []
   unfolding parts_in
   no-parts at e = by layout.has_header e
     where
-      by : (b : Bool) → option_and_then (places_in layout) (if b then first_of [] else Some []) ≡ Some at
-          → (if b then headed_parts layout [] else option_map (λ at. map (parts_at at) []) (places_in layout [])) ≡ Some []
+      by : (b : Bool) → option_and_then (columns_in layout) (if b then first_of [] else Some []) ≡ Some at
+          → (if b then headed_parts layout [] else option_map (λ at. map (parts_at layout at) []) (columns_in layout [])) ≡ Some []
       by true e = refl
       by false e = rw e refl
 
-  parts_of_piece : Option Places × List ℕ → Option (List Parts)
+  parts_of_piece : Option Columns × List ℕ → Option (List Parts)
   parts_of_piece piece = piece_parts layout piece.0 piece.1
 
-  later-parts : (at : Places) (pieces : List (List ℕ))
+  later-parts : (at : Columns) (pieces : List (List ℕ))
       → gathered parts_of_piece (map (λ q. (Some at, q)) pieces)
-      ≡ Some (map (parts_at at) (flat_map (rows_in layout) pieces))
+      ≡ Some (map (parts_at layout at) (flat_map (rows_in layout) pieces))
   unfolding gathered parts_of_piece
   later-parts at [] = refl
   later-parts at (q ∷ pieces) =
-      rw (later-parts at pieces, map-append (parts_at at) (rows_in layout q) (flat_map (rows_in layout) pieces)) refl
+      rw (later-parts at pieces, map-append (parts_at layout at) (rows_in layout q) (flat_map (rows_in layout) pieces)) refl
 
   -- the records of a text are those of its pieces
   text-pieces : (t : InPieces) → IsInPieces layout t
@@ -167,14 +167,14 @@ module _ (layout : Layout) where
       rw (text-pieces t are.0, texts-pieces texts are.1)
       (sym (gathered-append parts_of_piece (with_columns t.columns t.pieces) (all_pieces texts)))
 
-  reading_of : Option Places × List ℕ → Option Reading
+  reading_of : Option Columns × List ℕ → Option Reading
   reading_of piece = piece_reading layout piece.0 piece.1
 
   abbrev read_as : List Entry → Option Reading
   read_as xs = Some (Ok xs)
 
   -- pieces that are read by themselves are read one after the other
-  pieces-read : (n t : ℕ) (pieces : List (Option Places × List ℕ)) (parts : List (List Entry))
+  pieces-read : (n t : ℕ) (pieces : List (Option Columns × List ℕ)) (parts : List (List Entry))
       → map (λ piece. piece_reading layout piece.0 piece.1) pieces ≡ map read_as parts
       → t + total_of (whole_of parts) ≤ max_total
       → (ps : List Parts) × (gathered parts_of_piece pieces ≡ Some ps)

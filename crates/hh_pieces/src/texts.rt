@@ -18,12 +18,12 @@ ghost use Rattle.hh_pieces.specs.Windows.{held_in};
 
 use crate::cuts::{ends_outside_quotes, records_alike};
 use crate::long_record::{Limits, LongRecord, Syntax};
-use crate::pieces::{Columns, read_piece};
+use crate::pieces::read_piece;
 use crate::window::Window;
 use csv::ByteRecord;
 use hh_faults::TextError;
 use hh_records::laws::plain_layouts_read_streams;
-use hh_records::{Layout, ReadRecords, Room, choose, take_row};
+use hh_records::{Columns, Layout, ReadRecords, Room, take_row};
 use hh_stream::{KeyHash, Stream, TakeItems};
 use std::alloc::{AllocError, Global};
 use std::io::Read;
@@ -188,7 +188,7 @@ fn take_long<R: Read, T: TakeItems>(
 {
     let mut record = LongRecord::new(alloc);
     let mut room = Room::new(alloc);
-    let limits = columns.limits(layout.decimals);
+    let limits = Limits::of(layout, columns);
     let syntax = syntax_of(layout);
     let mut taken = Taken {
         number: before,
@@ -201,7 +201,7 @@ fn take_long<R: Read, T: TakeItems>(
             return Ok(taken);
         }
         taken.number += 1;
-        columns.take_row(taker, &mut room, &record.row, taken.number, bad, layout)?;
+        take_row(taker, &mut room, &record.row, columns, taken.number, bad, layout)?;
     }
     Ok(taken)
 }

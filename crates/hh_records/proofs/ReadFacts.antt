@@ -22,7 +22,7 @@ use Rattle.hh_faults.specs.declared.records.BadRecordCause.{BadRecordCause}
 use Rattle.hh_faults.specs.declared.records.BadRecordCause.TheVariants as cause
 use Rattle.hh_faults.specs.declared.records.TextError.{TextError}
 use Rattle.hh_faults.specs.declared.records.TextError.TheVariants as text
-use Rattle.hh_records.specs.Layouts.{IsPlain, RecordRefused, RowsRefused, added, added_after, adding_next, adds, adds_instead, adds_itself, between, by_columns, columns_among, config_of, configured, counted_as, field_names, gathered, headed_parts, items_after, joined, member_names, parts_at, parts_by, places_in, text_parts, texts_parts}
+use Rattle.hh_records.specs.Layouts.{IsPlain, RecordRefused, RowsRefused, added, added_after, adding_next, adds, adds_instead, adds_itself, between, config_of, configured, counted_as, gathered, headed_parts, items_after, joined, member_names, parts_at, parts_by, columns_in, text_parts, texts_parts}
 use Rattle.hh_records.specs.declared.layout.Layout.{Layout}
 use Rattle.hh_records.proofs.FormatFacts.{whole-parts}
 use Rattle.hh_records.specs.Formats.{byte_between, fields_by, has_quotes, part_said}
@@ -380,26 +380,24 @@ module _ (layout : Layout) (plain : IsPlain layout) where
   plain-config =
       ap (λ f. configured (has_quotes f) (byte_between f layout.delimiter)) plain.csv ∙ ap (configured true) plain.delimiter
 
-  plain-places : places_in layout [] ≡ Some (by_columns layout None)
-  plain-places =
-      let none : columns_among layout (field_names layout []) ≡ Some None = rw (plain.no_key, plain.no_weight) refl in
-      ap (option_map (by_columns layout)) none
+  plain-columns : columns_in layout [] ≡ Some None
+  plain-columns = rw (plain.no_key, plain.no_weight) refl
 
-  plain-rows : (rows : List Fields) → map (parts_at (by_columns layout None)) rows ≡ map parts_of rows
+  plain-rows : (rows : List Fields) → map (parts_at layout None) rows ≡ map parts_of rows
   plain-rows [] = refl
   plain-rows (r ∷ rows) =
-      let one : parts_at (by_columns layout None) r ≡ parts_of r =
+      let one : parts_at layout None r ≡ parts_of r =
       ap (λ f. parts_by None (part_said layout.part) (fields_by f (member_names layout) r)) plain.csv
       ∙ whole-parts (part_said layout.part) r plain.whole_field in
-      ap (λ (p : Parts). p ∷ map (parts_at (by_columns layout None)) rows) one
+      ap (λ (p : Parts). p ∷ map (parts_at layout None) rows) one
       ∙ ap (λ (ps : List Parts). parts_of r ∷ ps) (plain-rows rows)
 
   plain-text : (text : List ℕ) → text_parts layout text ≡ Some (map parts_of (records default_config (strip_bom text)))
   plain-text text =
       let rows = records (config_of layout) (strip_bom text) in
-      ap (λ b. if b then headed_parts layout rows else option_map (λ at. map (parts_at at) rows) (places_in layout []))
+      ap (λ b. if b then headed_parts layout rows else option_map (λ at. map (parts_at layout at) rows) (columns_in layout []))
       plain.no_header
-      ∙ ap (option_map (λ at. map (parts_at at) rows)) plain-places
+      ∙ ap (option_map (λ at. map (parts_at layout at) rows)) plain-columns
       ∙ ap Some (plain-rows rows)
       ∙ ap (λ cfg. Some (map parts_of (records cfg (strip_bom text)))) plain-config
 
