@@ -6,6 +6,7 @@ ghost use Rattle.std.specs.Prelude.{◌≡◌, ◌≤◌, ◌<◌, ◌-◌, ◌+
 ghost use Rattle.csv.specs.Machine.{ends_at_end, field_after, fields_after, in_field, is_end, start_field, step};
 ghost use Rattle.csv.specs.Reading.{strip_bom};
 ghost use Rattle.csv.specs.Records.{fields_of};
+ghost use Rattle.hh_stream.specs.Weights.{max_key_len};
 ghost use Rattle.hh_records.specs.Layouts.{adds, parts_at};
 ghost use Rattle.hh_records.specs.Streams.{Fields};
 ghost use Rattle.hh_pieces.specs.LongRecords as spec;
@@ -133,6 +134,14 @@ fn fields_read(columns: &ColumnIndices) -> Option<usize>
     last.checked_add(1)
 }
 
+/// Gives how many bytes make a field too long for a key, and for a weight with these `decimals`.
+fn least_long(decimals: u8) -> usize
+    ensures key { max_key_len < result }
+    ensures small { decimals ≤ 255 }
+{
+    MAX_KEY_LEN.max(MOST_WHOLE + decimals as usize) + 1
+}
+
 impl Limits {
     /// All is kept.
     pub(crate) const NONE: Limits = Limits {
@@ -154,11 +163,8 @@ impl Limits {
             Some(columns) => fields_read(columns),
             None => Some(MOST_PAIR + 1),
         };
-        let most = MAX_KEY_LEN.max(MOST_WHOLE + layout.decimals as usize);
-        Limits {
-            fields,
-            bytes: Some(most + 1),
-        }
+        let bytes = Some(least_long(layout.decimals));
+        Limits { fields, bytes }
     }
 }
 

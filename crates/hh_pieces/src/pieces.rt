@@ -1,7 +1,7 @@
 //! Pieces of a text of records, each of which is read by itself.
 
 ghost use Rattle.std.specs.Bool.{OnTrue};
-ghost use Rattle.std.specs.Prelude.{◌≡◌, ◌≤◌, ℕ, List, None, Some, true, map, IfOk, IfErr, IfSome, OnOk};
+ghost use Rattle.std.specs.Prelude.{◌≡◌, ◌≤◌, ◌∷◌, [], ℕ, List, None, Some, true, map, IfOk, IfErr, IfSome, OnOk};
 ghost use Rattle.hh_stream.specs.Weights.{max_total};
 ghost use Rattle.hh_stream.specs.Taking.{Takes};
 ghost use Rattle.hh_records.specs.Layouts.{RowsRefused, parts_at, rows_in};
@@ -34,8 +34,21 @@ fn has_plain_lines(layout: &Layout) -> bool
     }
 }
 
-/// Gives how lines are cut whose fields are records of `layout` with these `columns`, if the key is
-/// one field.
+/// Gives where the fields of the key and the weight stand, if the key is one.
+fn field_places(columns: &ColumnIndices) -> Option<FieldPlaces>
+    ensures { IfSome result (λ at. (columns.now.key.items ≡ at.key ∷ [])
+        × (columns.now.weight ≡ at.weight)) }
+{
+    if columns.key.len() != 1 {
+        return None;
+    }
+    Some(FieldPlaces {
+        key: columns.key[0],
+        weight: columns.weight,
+    })
+}
+
+/// Gives how lines are cut whose fields are records of `layout` with these `columns`.
 fn column_cut(layout: &Layout, columns: &ColumnIndices) -> Option<LineCut>
     ensures apart { spec.is_separator (byte_between layout.now.format layout.now.delimiter) ≡ true
         → IfSome result CutsWithin }
@@ -44,17 +57,11 @@ fn column_cut(layout: &Layout, columns: &ColumnIndices) -> Option<LineCut>
         (map (spec.line_fields (byte_between layout.now.format layout.now.delimiter)) lines)
         ≡ map (line_parts (part_said layout.now.part) cut) lines) }
 {
-    if columns.key.len() != 1 {
-        return None;
-    }
     match layout.format {
-        Format::Csv | Format::Unquoted => {
-            let at = FieldPlaces {
-                key: columns.key[0],
-                weight: columns.weight,
-            };
-            Some(LineCut::Columns(layout.delimiter, at))
-        }
+        Format::Csv | Format::Unquoted => match field_places(columns) {
+            Some(at) => Some(LineCut::Columns(layout.delimiter, at)),
+            None => None,
+        },
         Format::Squeezed | Format::Lines | Format::Json => None,
     }
 }
@@ -77,6 +84,11 @@ fn line_cut(layout: &Layout, columns: &Columns) -> Option<LineCut>
         Some(columns) => column_cut(layout, columns),
         None => Some(cut_of(layout.format, layout.delimiter)),
     }
+}
+
+/// Whether lines are cut by themselves of a text that has quotes in others.
+pub(crate) fn has_quotes_apart(layout: &Layout, columns: &Columns) -> bool {
+    layout.format.has_quotes() && line_cut(layout, columns).is_some()
 }
 
 /// What stands after a byte order mark, and how its lines are cut, where a piece of a text can be

@@ -1,4 +1,4 @@
-use Rattle.std.proofs.Common.{Some, None, ◌+◌, ◌∙◌, arith, refl, sym}
+use Rattle.std.proofs.Common.{Some, None, ◌∙◌, arith, refl, sym}
 use Rattle.hh_pieces.specs.LongRecords.{ReadsWithin}
 use Rattle.hh_pieces.proofs.AlikeFacts.{keeps-all, keeps-enough}
 use Rattle.hh_pieces.proofs.long_record.Limits.of.Goals as goal
@@ -10,10 +10,9 @@ returns-then-not-has_quotes c t fs =
 
 pub returns : goal.returns
 returns c t fs =
-    keeps-enough c.args.layout.now c.args.columns.now
-    (record { fields = c.match-indices.fields; bytes = Some (c.max-most.result + 1) }) t fs
+    keeps-enough c.args.layout.now c.args.columns.now (record { fields = c.match-indices.fields; bytes = Some c.least_long.result }) t fs
     (sym c.has_quotes.ensures ∙ c.if-not-has_quotes.false) (sym c.is_whole.ensures ∙ c.if-not-is_whole.false)
-    within (omega (arith, c.max-most.ensures)) (omega (arith, c.ranges.layout))
+    within c.least_long.ensures.key c.least_long.ensures.small
   where
     within : ReadsWithin c.args.columns.now c.match-indices.fields
     within =
