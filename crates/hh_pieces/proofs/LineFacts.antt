@@ -1,7 +1,6 @@
 -- The records of a text without quotes, or where a quote is a byte as any other, line by line.
 use Rattle.std.proofs.Common.{◌≡◌, ◌⊎◌, ◌∷◌, ◌++◌, ◌∙◌, inl, inr, ℕ, List, [], get_or, map, Bool, true, false, Option, Some, None, refl, sym, ap, append-nil, append_assoc}
 use Rattle.std.specs.Prelude.{◌==◌, ◌&&◌, ◌||◌, not, option_and_then, option_map, if◌then◌else◌}
-use Rattle.std.specs.Bool.{OnTrue}
 use Rattle.std.specs.Option.{option_zip}
 use Rattle.std.specs.List.{AllByRecursion, join_with_byte, onto_first, slice_split}
 use Rattle.std.proofs.lemmas.List.Splits.{join_with_byte-slice_split}
@@ -13,10 +12,9 @@ use Rattle.csv.specs.declared.parser.State.{State}
 use Rattle.csv.specs.declared.parser.State.TheVariants as st
 use Rattle.csv.specs.Records.{field_at}
 use Rattle.hh_records.specs.Formats.{Names, Part, byte_between, fields_by, is_whole_field, part_of, part_said, with_part}
-use Rattle.hh_records.specs.Layouts.{Columns, member_names, configured, every, key_of, parts_at, parts_by, rows_in, weight_at}
+use Rattle.hh_records.specs.Layouts.{member_names, configured, every, key_of, parts_at, parts_by, weight_at}
 use Rattle.hh_records.specs.declared.layout.Layout.{Layout}
 use Rattle.hh_records.proofs.FormatFacts.{with-whole}
-use Rattle.hh_pieces.specs.Pieces.{parts_in}
 use Rattle.hh_records.specs.declared.format.Format.{Format}
 use Rattle.hh_records.specs.declared.format.Format.TheVariants as format
 use Rattle.hh_pieces.specs.Laws.{UnquotedTextsAreSplit}

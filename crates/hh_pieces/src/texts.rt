@@ -216,7 +216,15 @@ fn take_records<R: Read, T: TakeItems>(
             return Ok(taken);
         }
         taken.number += 1;
-        take_row(taker, &mut room, &record.row, columns, taken.number, bad, layout)?;
+        take_row(
+            taker,
+            &mut room,
+            &record.row,
+            columns,
+            taken.number,
+            bad,
+            layout,
+        )?;
         goes_on = reads_on(is_long, window);
     }
     Ok(taken)
@@ -274,7 +282,9 @@ fn take_held<R: Read, T: TakeItems>(
         if !outside || !is_quoted && !is_long {
             return Ok(Taken { number, outside });
         }
-        taken = take_records(alloc, columns, is_long, window, reader, number, taker, bad, layout)?;
+        taken = take_records(
+            alloc, columns, is_long, window, reader, number, taker, bad, layout,
+        )?;
     }
     Err(TextError::ReadFault)
 }

@@ -29,4 +29,3 @@ key-refused h words i d tool.BadColumn less r =
     )
 key-refused h words i d tool.Memory less r = tt
 key-refused h words i d _ less r = absurd r
-
