@@ -4,8 +4,8 @@ use Rattle.std.specs.Prelude.{◌==◌, nat_le, if◌then◌else◌, option_map}
 use Rattle.std.proofs.lemmas.Bool.{eqb-false}
 use Rattle.std.proofs.lemmas.List.Elements.{All-append, All-from_recursion}
 use Rattle.hh_stream.specs.Weights.{Bytes, Entry, max_key_len, max_total, total_of}
-use Rattle.hh_records.specs.Layouts.{added, adding_next, adds, adds_instead, adds_itself, bad_key, counted_as, item_by, items_after, joined, stream_with, texts_parts, weight_by}
-use Rattle.hh_records.specs.Streams.{Parts, Reading, item_of_key, item_of_pair, weight_after, weight_or_cause}
+use Rattle.hh_records.specs.Layouts.{added, added_after, adding_next, adds, adds_alone, adds_instead, adds_itself, bad_key, counted_as, item_by, items_after, joined, stream_with, texts_parts, weight_by}
+use Rattle.hh_records.specs.Streams.{Parts, Reading, item_of_key, item_of_pair, weight_or_cause}
 use Rattle.hh_records.specs.declared.layout.Layout.{Layout}
 use Rattle.hh_faults.specs.declared.records.BadRecordCause.{BadRecordCause}
 use Rattle.hh_faults.specs.declared.records.BadRecordCause.TheVariants as cause
@@ -13,38 +13,36 @@ use Rattle.hh_faults.specs.declared.records.BadRecordCause.TheVariants as cause
 abbrev pub Weighs : Entry → Type 0
 Weighs e = 0 < e.1
 
--- a weight that is added is not 0
-weight_is_some : (t w v : ℕ) → weight_or_cause t w ≡ Ok v → 0 < v
-weight_is_some t w v e = by (w == 0) refl (nat_le (t + w) max_total) e
+-- a weight that counts is not 0
+weight_is_some : (w v : ℕ) → weight_or_cause (Some w) ≡ Ok v → 0 < v
+weight_is_some w v e = by (w == 0) refl e
   where
-    by : (none : Bool) → (w == 0) ≡ none → (fits : Bool)
-        → (if none then Err cause.ZeroWeight else if fits then Ok w else Err cause.TotalTooLarge) ≡ Ok v → 0 < v
-    by true is fits e = absurd (cc e)
-    by false is true e = let same : w ≡ v = cc e in omega (arith, eqb-false w 0 is, same)
-    by false is false e = absurd (cc e)
+    by : (none : Bool) → (w == 0) ≡ none → (if none then Err cause.ZeroWeight else Ok w) ≡ Ok v → 0 < v
+    by true is e = absurd (cc e)
+    by false is e = let same : w ≡ v = cc e in omega (arith, eqb-false w 0 is, same)
 
 -- so it is with that of an item of a key
-pair_weighs : (t : ℕ) (k : Bytes) (w : Option ℕ) (x : Entry) → item_of_pair k (weight_after t w) ≡ Ok x → Weighs x
-pair_weighs t k None x e = absurd (cc e)
-pair_weighs t k (Some w) x e = by (weight_or_cause t w) refl e
+pair_weighs : (k : Bytes) (w : Option ℕ) (x : Entry) → item_of_pair k (weight_or_cause w) ≡ Ok x → Weighs x
+pair_weighs k None x e = absurd (cc e)
+pair_weighs k (Some w) x e = by (weight_or_cause (Some w)) refl e
   where
-    by : (r : Result ℕ BadRecordCause) → weight_or_cause t w ≡ r → item_of_pair k r ≡ Ok x → Weighs x
-    by (Ok v) is e = let same : (k, v) ≡ x = cc e in subst Weighs same (weight_is_some t w v is)
+    by : (r : Result ℕ BadRecordCause) → weight_or_cause (Some w) ≡ r → item_of_pair k r ≡ Ok x → Weighs x
+    by (Ok v) is e = let same : (k, v) ≡ x = cc e in subst Weighs same (weight_is_some w v is)
     by (Err c) is e = absurd (cc e)
 
-key_weighs : (t : ℕ) (k : Bytes) (w : Option ℕ) (x : Entry) → item_of_key t k w ≡ Ok x → Weighs x
-key_weighs t k w x e = by (length k == 0) (nat_le (length k) max_key_len) e
+key_weighs : (k : Bytes) (w : Option ℕ) (x : Entry) → item_of_key k w ≡ Ok x → Weighs x
+key_weighs k w x e = by (length k == 0) (nat_le (length k) max_key_len) e
   where
     by : (none fits : Bool)
-        → (if none then Err cause.EmptyKey else if fits then item_of_pair k (weight_after t w) else Err cause.KeyTooLong)
+        → (if none then Err cause.EmptyKey else if fits then item_of_pair k (weight_or_cause w) else Err cause.KeyTooLong)
         ≡ Ok x → Weighs x
     by true fits e = absurd (cc e)
-    by false true e = pair_weighs t k w x e
+    by false true e = pair_weighs k w x e
     by false false e = absurd (cc e)
 
-item_weighs : (layout : Layout) (t : ℕ) (p : Parts) (x : Entry) → item_by layout t p ≡ Ok x → Weighs x
-item_weighs layout t None x e = absurd (cc e)
-item_weighs layout t (Some p) x e = key_weighs t p.0 (weight_by layout p.1) x e
+item_weighs : (layout : Layout) (p : Parts) (x : Entry) → item_by layout p ≡ Ok x → Weighs x
+item_weighs layout None x e = absurd (cc e)
+item_weighs layout (Some p) x e = key_weighs p.0 (weight_by layout p.1) x e
 
 -- and with what a record adds
 added_weigh : (allow : Bool) (r : Result Entry BadRecordCause) (xs : List Entry) → added allow r ≡ Ok xs
@@ -56,25 +54,28 @@ added_weigh true (Err cause.ZeroWeight) xs e h =
 added_weigh false (Err cause.ZeroWeight) xs e h = absurd (cc e)
 added_weigh allow (Err c) xs e h = absurd (cc e)
 
-itself_weigh : (layout : Layout) (t : ℕ) (p : Parts) (xs : List Entry) → adds_itself layout t p ≡ Ok xs → All Weighs xs
-itself_weigh layout t p xs e =
-    added_weigh layout.allow_zero (item_by layout t p) xs e (item_weighs layout t p)
+itself_weigh : (layout : Layout) (p : Parts) (xs : List Entry) → adds_itself layout p ≡ Ok xs → All Weighs xs
+itself_weigh layout p xs e = added_weigh layout.allow_zero (item_by layout p) xs e (item_weighs layout p)
 
 -- so it is where a record counts as a key since it is bad
-instead_weigh : (layout : Layout) (t : ℕ) (key : Option Bytes) (c : BadRecordCause) (xs : List Entry)
-    → adds_instead layout t key c ≡ Ok xs → All Weighs xs
-instead_weigh layout t None c xs e = absurd (cc e)
-instead_weigh layout t (Some key) cause.TotalTooLarge xs e = absurd (cc e)
-instead_weigh layout t (Some key) cause.FieldCount xs e = itself_weigh layout t (Some (key, None)) xs e
-instead_weigh layout t (Some key) cause.EmptyKey xs e = itself_weigh layout t (Some (key, None)) xs e
-instead_weigh layout t (Some key) cause.KeyTooLong xs e = itself_weigh layout t (Some (key, None)) xs e
-instead_weigh layout t (Some key) cause.BadWeight xs e = itself_weigh layout t (Some (key, None)) xs e
-instead_weigh layout t (Some key) cause.ZeroWeight xs e = itself_weigh layout t (Some (key, None)) xs e
+instead_weigh : (layout : Layout) (key : Option Bytes) (c : BadRecordCause) (xs : List Entry)
+    → adds_instead layout key c ≡ Ok xs → All Weighs xs
+instead_weigh layout None c xs e = absurd (cc e)
+instead_weigh layout (Some key) c xs e = itself_weigh layout (Some (key, None)) xs e
 
-counted_weigh : (layout : Layout) (t : ℕ) (r : Result (List Entry) BadRecordCause) (xs : List Entry)
-    → counted_as layout t r ≡ Ok xs → (r ≡ Ok xs → All Weighs xs) → All Weighs xs
-counted_weigh layout t (Ok es) xs e h = h e
-counted_weigh layout t (Err c) xs e h = instead_weigh layout t (bad_key layout) c xs e
+counted_weigh : (layout : Layout) (r : Result (List Entry) BadRecordCause) (xs : List Entry)
+    → counted_as layout r ≡ Ok xs → (r ≡ Ok xs → All Weighs xs) → All Weighs xs
+counted_weigh layout (Ok es) xs e h = h e
+counted_weigh layout (Err c) xs e h = instead_weigh layout (bad_key layout) c xs e
+
+-- what fits after a total was added before it
+after_is : (t : ℕ) (r : Result (List Entry) BadRecordCause) (xs : List Entry) → added_after t r ≡ Ok xs → r ≡ Ok xs
+after_is t (Err c) xs e = e
+after_is t (Ok es) xs e = by (nat_le (t + total_of es) max_total) e
+  where
+    by : (fits : Bool) → (if fits then Ok es else Err cause.TotalTooLarge) ≡ Ok xs → ◌≡◌ {A = Result (List Entry) BadRecordCause} (Ok es) (Ok xs)
+    by true e = e
+    by false e = absurd (cc e)
 
 items_weigh : (layout : Layout) (n t : ℕ) (ps : List Parts) (xs : List Entry) → items_after layout n t ps ≡ Ok xs
     → All Weighs xs
@@ -95,7 +96,7 @@ items_weigh layout n t (p ∷ ps) xs e =
         → All Weighs xs
     by (Ok es) is e more =
         go es (items_after layout (n + 1) (t + total_of es) ps)
-        (counted_weigh layout t (adds_itself layout t p) es is (itself_weigh layout t p es)) (more es) e
+        (counted_weigh layout (adds_itself layout p) es (after_is t (adds_alone layout p) es is) (itself_weigh layout p es)) (more es) e
     by (Err c) is e more = absurd (cc e)
 
 -- the items that texts read as weigh something

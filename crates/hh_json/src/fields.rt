@@ -1,8 +1,10 @@
 //! The members of a line as the fields of a record.
 
-ghost use Rattle.std.specs.Prelude.{◌≡◌, ◌++◌, [], IfOk, OnOk};
+ghost use Rattle.std.specs.Prelude.{◌≡◌, ◌++◌, [], ℕ, List, IfOk, OnOk};
 ghost use Rattle.std.specs.Bool.{then_some};
-ghost use Rattle.std.specs.Prelude.{map, option_map};
+ghost use Rattle.std.specs.List.{flat_map};
+ghost use Rattle.std.specs.Option.{option_to_list};
+ghost use Rattle.std.specs.Prelude.{option_map};
 ghost use Rattle.csv.specs.Records.{fields_of, partial_of};
 ghost use Rattle.json.specs.Find.{BeginsWith, Finds};
 ghost use Rattle.json.specs.Json.{Json};
@@ -74,23 +76,35 @@ fn weight_of<'a>(object: &Element<'_, 'a>, name: &[u8]) -> Option<&'a [u8]>
     Some(named(object, name)?.as_number()?.as_bytes())
 }
 
+/// What may name a member of an object.
+pub trait MemberName {
+    /// The name, in a list, or nothing.
+    ghost said: { Self → List (List ℕ) };
+
+    /// Gives the name, where this is one.
+    fn name(&self) -> Option<&[u8]>
+        ensures { option_to_list (option_map (λ name. name.now) result) ≡ said self.now };
+}
+
 /// Puts the members that `names` name behind `fields`, and says whether all are there.
-fn push_keys(
+fn push_keys<N: MemberName>(
     object: &Element<'_, '_>,
-    names: &[Vec<u8>],
+    names: &[N],
     fields: &mut ByteRecord,
 ) -> Result<bool, AllocError>
     requires { partial_of fields.old ≡ [] }
     ensures keys { IfOk result (λ found. (j : Json) → BeginsWith object.now j
         → then_some found (fields_of fields.new)
         ≡ option_map (λ texts. fields_of fields.old ++ texts)
-        (keys_of j (map (λ name. name.items) names.now))) }
+        (keys_of j (flat_map N.said names.now))) }
     ensures partial { OnOk result (partial_of fields.new ≡ []) }
 {
     for name in names {
-        match key_of(object, name.as_slice()) {
-            Some(text) => fields.push_field(text)?,
-            None => return Ok(false),
+        if let Some(name) = name.name() {
+            match key_of(object, name) {
+                Some(text) => fields.push_field(text)?,
+                None => return Ok(false),
+            }
         }
     }
     Ok(true)
@@ -98,9 +112,9 @@ fn push_keys(
 
 /// Puts the members that `names` name, and after them the weight's, behind `fields`, and says
 /// whether all are there.
-fn push_members(
+fn push_members<N: MemberName>(
     object: &Element<'_, '_>,
-    names: &[Vec<u8>],
+    names: &[N],
     weight: Option<&[u8]>,
     fields: &mut ByteRecord,
 ) -> Result<bool, AllocError>
@@ -108,7 +122,7 @@ fn push_members(
     ensures { IfOk result (λ found. (j : Json) → BeginsWith object.now j
         → then_some found (fields_of fields.new)
         ≡ option_map (λ texts. fields_of fields.old ++ texts) (fields_in
-        (map (λ name. name.items) names.now) (option_map (λ name. name.now) weight.entry)
+        (flat_map N.said names.now) (option_map (λ name. name.now) weight.entry)
         j)) }
 {
     if !push_keys(object, names, fields)? {
@@ -137,15 +151,15 @@ fn push_members(
 ///
 /// `scratch` is kept from line to line, so that its memory serves them all. A line of 4 GiB is
 /// answered as one for which memory is missing.
-pub fn members(
+pub fn members<N: MemberName>(
     alloc: Global,
     line: &[u8],
-    names: &[Vec<u8>],
+    names: &[N],
     weight: Option<&[u8]>,
     scratch: &mut Scratch,
     fields: &mut ByteRecord,
 ) -> Result<(), AllocError>
-    ensures { OnOk result (fields_of fields.new ≡ json_fields (map (λ name. name.items) names.now)
+    ensures { OnOk result (fields_of fields.new ≡ json_fields (flat_map N.said names.now)
         (option_map (λ name. name.now) weight.entry) line.now) }
 {
     fields.clear();

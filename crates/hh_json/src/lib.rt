@@ -5,4 +5,4 @@ mod fields;
 pub mod laws;
 mod paths;
 
-pub use fields::members;
+pub use fields::{MemberName, members};

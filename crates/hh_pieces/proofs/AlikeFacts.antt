@@ -13,11 +13,10 @@ use Rattle.hh_stream.specs.Digits.{is_digit, is_number}
 use Rattle.hh_stream.specs.Weights.{max_key_len}
 use Rattle.hh_records.specs.Decimals.{is_whole, point_from, units_at, units_of}
 use Rattle.hh_records.specs.Formats.{Part, has_quotes, is_whole_field, part_said, with_part}
-use Rattle.hh_records.specs.Layouts.{Columns, adds, chosen_columns, chosen_places, every, fields_at, is_hyphen, key_of, parts_at, parts_by, weight_at, weight_by}
+use Rattle.hh_records.specs.Layouts.{Columns, adds, every, fields_at, is_hyphen, key_of, parts_at, parts_by, weight_at, weight_by}
 use Rattle.hh_records.specs.Streams.{Fields, Parts, item_of_key, parts_of}
 use Rattle.hh_records.specs.declared.format.Format.{Format}
 use Rattle.hh_records.specs.declared.format.Format.TheVariants as format
-use Rattle.hh_records.specs.declared.layout.ChosenLayout.{ChosenLayout}
 use Rattle.hh_records.specs.declared.layout.Layout.{Layout}
 use Rattle.hh_faults.specs.declared.records.BadRecordCause.TheVariants as cause
 use Rattle.hh_records.proofs.FormatFacts.{whole-parts, with-whole}
@@ -218,8 +217,8 @@ parts-alike (Some at) part fs gs whole h = by _ _ _ _ (fields-alike fs gs at.0 h
     by (Some xs) (Some ys) (Some v) (Some w) h k =
         (rw (with-whole part xs whole, with-whole part ys whole) (key-alike xs ys h), k)
 
-key-long : (t : ℕ) (k : List ℕ) (w : Option ℕ) → max_key_len < length k → item_of_key t k w ≡ Err cause.KeyTooLong
-key-long t k w h =
+key-long : (k : List ℕ) (w : Option ℕ) → max_key_len < length k → item_of_key k w ≡ Err cause.KeyTooLong
+key-long k w h =
     let some : (length k == 0) ≡ false = ne_eqb (length k) 0 (λ e. omega (arith, e, h)) in
     let long : nat_le (length k) max_key_len ≡ false = lt-leb (length k) max_key_len h in
     rw (some, long) refl
@@ -249,7 +248,7 @@ module _ (layout : Layout) (few : layout.decimals ≤ 255) where
     where
       by : AlikeField p.0 q.0 → adds layout t (Some p) ≡ adds layout t (Some q)
       by (inl e) = rw (e, weight-alike p.1 q.1 h.1) refl
-      by (inr e) = rw (key-long t p.0 (weight_by layout p.1) e.0, key-long t q.0 (weight_by layout q.1) e.1) refl
+      by (inr e) = rw (key-long p.0 (weight_by layout p.1) e.0, key-long q.0 (weight_by layout q.1) e.1) refl
 
 -- ---- the fields behind those that are read
 field-among : (n i : ℕ) (fs : Fields) → i < n → field_at (take n fs) i ≡ field_at fs i
@@ -317,20 +316,19 @@ quoted-is-csv format.Squeezed e = cc e
 quoted-is-csv format.Lines e = cc e
 quoted-is-csv format.Json e = cc e
 
--- ---- what is kept of the records of a chosen layout
-module _ (chosen : ChosenLayout) (limits : Limits) (layout : Layout) (t : ℕ) (fs : Fields) where
+-- ---- what is kept of the records of a layout
+module _ (layout : Layout) (columns : Columns) (limits : Limits) (t : ℕ) (fs : Fields) where
   abbrev Adds : Type 0
-  Adds = adds layout t (parts_at (chosen_places chosen) (kept_of limits fs)) ≡ adds layout t (parts_at (chosen_places chosen) fs)
+  Adds = adds layout t (parts_at layout columns (kept_of limits fs)) ≡ adds layout t (parts_at layout columns fs)
 
   pub keeps-all : limits.fields ≡ None → limits.bytes ≡ None → Adds
   keeps-all fields bytes = rw (fields, bytes, map-id fs) refl
 
-  pub keeps-enough : has_quotes chosen.format ≡ true → is_whole_field (part_said chosen.part) ≡ true
-      → ReadsWithin (chosen_columns chosen.columns) limits.fields → IfSome limits.bytes (λ n. max_key_len < n)
-      → layout.decimals ≤ 255 → Adds
+  pub keeps-enough : has_quotes layout.format ≡ true → is_whole_field (part_said layout.part) ≡ true
+      → ReadsWithin columns limits.fields → IfSome limits.bytes (λ n. max_key_len < n) → layout.decimals ≤ 255 → Adds
   keeps-enough quotes whole within long few =
-      rw (quoted-is-csv chosen.format quotes)
-      (kept-adds layout few limits (chosen_columns chosen.columns) (part_said chosen.part) t fs whole within long)
+      rw (quoted-is-csv layout.format quotes)
+      (kept-adds layout few limits columns (part_said layout.part) t fs whole within long)
 
 -- ---- the greatest place
 pub weaker-below : (o : Option ℕ) (m n : ℕ) → m ≤ n → IfSome o (λ i. i ≤ m) → IfSome o (λ i. i ≤ n)

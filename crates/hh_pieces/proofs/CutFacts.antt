@@ -1,9 +1,10 @@
 -- Records of a text that is cut before line feeds.
-use Rattle.std.proofs.Common.{◌≡◌, ◌≤◌, ◌+◌, ◌∷◌, ◌++◌, ◌∙◌, ℕ, suc, zero, List, [], length, take, drop, Bool, true, false, Option, Some, None, refl, sym, ap, arith, append-nil}
-use Rattle.std.specs.Prelude.{◌==◌, ◌&&◌, not, if◌then◌else◌}
+use Rattle.std.proofs.Common.{◌≡◌, ◌≤◌, ◌+◌, ◌∷◌, ◌++◌, ◌∙◌, ℕ, suc, zero, List, [], length, length-take, take, drop, Bool, true, false, Option, Some, None, refl, sym, ap, arith, append-nil}
+use Rattle.std.specs.Prelude.{◌==◌, ◌&&◌, IfSome, not, if◌then◌else◌}
 use Rattle.std.proofs.lemmas.Bool.{eqb-false, eqb-true, false≢true, ne_eqb}
 use Rattle.std.proofs.lemmas.Grind.{fold-append}
 use Rattle.std.proofs.lemmas.List.{drop-append-le, take-append-drop, take-append-le}
+use Rattle.memchr.specs.Find.{IsLast}
 use Rattle.csv.specs.Machine.{Read, after_end, ends_at_end, ends_with, field_after, fields_after, in_field, is_byte, is_end, next_record, start_field, start_record, step}
 use Rattle.csv.specs.Reading.{is_bom, records, records_from, records_next, strip_bom}
 use Rattle.csv.specs.declared.parser.Config.{Config}
@@ -302,7 +303,7 @@ feeds-cut config (a ∷ b ∷ rest) later outside =
     (record { outside = outside.0; feed = later.0 }, feeds-cut config (b ∷ rest) later.1 outside.1)
 
 -- a place where the front of a text may be cut is one where the text may be
-pub cut-front : (config : Config) (text : List ℕ) (n at : ℕ) → at ≤ length (take n text)
+cut-front : (config : Config) (text : List ℕ) (n at : ℕ) → at ≤ length (take n text)
     → IsCutAt config (take n text) at → IsCutAt config text at
 cut-front config text n at within cut =
     let all = sym (take-append-drop n text) in
@@ -312,3 +313,18 @@ cut-front config text n at within cut =
       outside = ap (ends_outside config) front ∙ cut.outside;
       feed = ap begins_with_feed rest ∙ feed-append (drop at (take n text)) (drop n text) cut.feed;
     }
+
+-- the last place where a text may be cut
+pub last-cut : (config : Config) (text : List ℕ) (last : Option ℕ) → IsLast (IsCutAt config text) 0 (length text) last
+    → IfSome last (λ at. (at ≤ length text) × IsCutAt config text at)
+last-cut config text None h = tt
+last-cut config text (Some at) h = (omega (arith, h.0.high), h.1)
+
+-- the last one where the front of a text may be
+pub last-front : (config : Config) (text : List ℕ) (n : ℕ) (last : Option ℕ)
+    → IsLast (IsCutAt config (take n text)) 0 (length (take n text)) last
+    → IfSome last (λ at. (at ≤ length text) × IsCutAt config text at)
+last-front config text n None h = tt
+last-front config text n (Some at) h =
+    let size = length-take n text in
+    (omega (arith, h.0.high, size), cut-front config text n at (omega (arith, h.0.high)) h.1)

@@ -8,7 +8,7 @@ use Rattle.hh_stream.specs.Cuttings.{whole_of}
 use Rattle.hh_stream.specs.Weights.{Entry}
 use Rattle.hh_pieces.specs.CutTexts.{AreReadByPieces, Begins, Piece, items_of, padded, piece_items}
 use Rattle.hh_pieces.specs.Laws.{FeedsOutsideQuotesAreCuts, PiecesAreRead}
-use Rattle.hh_records.specs.Layouts.{Places, config_of}
+use Rattle.hh_records.specs.Layouts.{Columns, config_of}
 use Rattle.hh_pieces.specs.Pieces.{InPieces, IsInPieces, all_pieces, ends_outside, piece_reading, text_of, with_columns}
 use Rattle.hh_records.specs.Streams.{Reading}
 use Rattle.hh_records.specs.declared.layout.Layout.{Layout}
@@ -84,13 +84,13 @@ module _ (layout : Layout) where
       (cc (reads, all), (outside, others))
 
   -- the pieces of a text end outside quotes where they do with their columns
-  pub bytes-outside : (columns : Places) (pieces : List (List ℕ))
+  pub bytes-outside : (columns : Columns) (pieces : List (List ℕ))
       → AllByRecursion IsOutside (map (λ q. (Some columns, q)) pieces)
       → AllByRecursion (λ piece. ends_outside (config_of layout) piece ≡ true) pieces
   bytes-outside columns [] h = tt
   bytes-outside columns (q ∷ qs) h = (h.0, bytes-outside columns qs h.1)
 
-  pub text-outside : (columns : Places) (pieces : List (List ℕ)) → AllByRecursion IsOutside (with_columns columns pieces)
+  pub text-outside : (columns : Columns) (pieces : List (List ℕ)) → AllByRecursion IsOutside (with_columns columns pieces)
       → AllByRecursion (λ piece. ends_outside (config_of layout) piece ≡ true) pieces
   text-outside columns [] h = tt
   text-outside columns (q ∷ qs) h = (h.0, bytes-outside columns qs h.1)

@@ -7,7 +7,7 @@ use Rattle.hh_stream.specs.Weights.{Entry}
 use Rattle.hh_pieces.specs.CutFiles.{AddsSpans, CutsBytes, file_piece, span_bytes}
 use Rattle.hh_pieces.specs.CutTexts.{AreReadByPieces, Piece, padded, piece_items}
 use Rattle.hh_pieces.specs.Laws.{FeedsOutsideQuotesAreCuts, PiecesAreRead}
-use Rattle.hh_records.specs.Layouts.{Places, every}
+use Rattle.hh_records.specs.Layouts.{Columns, every}
 use Rattle.hh_records.specs.Layouts.{FindsColumns, rows_in}
 use Rattle.hh_pieces.specs.declared.cut_files.FilePiece.{FilePiece}
 use Rattle.hh_pieces.specs.declared.cut_files.Span.{Span}
@@ -28,7 +28,7 @@ every-at f (z ∷ xs) ys (suc i) x d e l =
 
 module _ (layout : Layout) where
   -- the pieces of a source are added, the first one before the later ones
-  pub source-added : (bytes : Option (List ℕ)) (number : ℕ) (old mid new : List FilePiece) (columns : Places)
+  pub source-added : (bytes : Option (List ℕ)) (number : ℕ) (old mid new : List FilePiece) (columns : Columns)
       (piece : FilePiece) (first : Span) (later spans : List Span) → spans ≡ first ∷ later
       → IfSome bytes (λ bytes. CutsBytes bytes spans)
       → IfSome (option_map (λ bytes. span_bytes bytes first) bytes)
@@ -135,7 +135,7 @@ module _ (layout : Layout) where
           ∙ items
 
 -- one later piece more of the file with this number
-pub pieces-more : (texts : List (List ℕ)) (number : ℕ) (columns copy : Places) (later : List Span) (i : ℕ) (d : Span)
+pub pieces-more : (texts : List (List ℕ)) (number : ℕ) (columns copy : Columns) (later : List Span) (i : ℕ) (d : Span)
     (old now new : List FilePiece) (one : FilePiece) → i < length later → copy ≡ columns
     → file_piece texts one ≡ (Some copy, span_bytes (get_or texts number []) (get_or later i d))
     → new ≡ now ++ one ∷ []

@@ -1,7 +1,6 @@
 -- The records of a text without quotes, or where a quote is a byte as any other, line by line.
 use Rattle.std.proofs.Common.{◌≡◌, ◌⊎◌, ◌∷◌, ◌++◌, ◌∙◌, inl, inr, ℕ, List, [], get_or, map, Bool, true, false, Option, Some, None, refl, sym, ap, append-nil, append_assoc}
 use Rattle.std.specs.Prelude.{◌==◌, ◌&&◌, ◌||◌, not, option_and_then, option_map, if◌then◌else◌}
-use Rattle.std.specs.Bool.{OnTrue}
 use Rattle.std.specs.Option.{option_zip}
 use Rattle.std.specs.List.{AllByRecursion, join_with_byte, onto_first, slice_split}
 use Rattle.std.proofs.lemmas.List.Splits.{join_with_byte-slice_split}
@@ -13,10 +12,9 @@ use Rattle.csv.specs.declared.parser.State.{State}
 use Rattle.csv.specs.declared.parser.State.TheVariants as st
 use Rattle.csv.specs.Records.{field_at}
 use Rattle.hh_records.specs.Formats.{Names, Part, byte_between, fields_by, is_whole_field, part_of, part_said, with_part}
-use Rattle.hh_records.specs.Layouts.{Places, configured, every, key_of, parts_at, parts_by, rows_in, weight_at}
+use Rattle.hh_records.specs.Layouts.{member_names, configured, every, key_of, parts_at, parts_by, weight_at}
 use Rattle.hh_records.specs.declared.layout.Layout.{Layout}
 use Rattle.hh_records.proofs.FormatFacts.{with-whole}
-use Rattle.hh_pieces.specs.Pieces.{parts_in}
 use Rattle.hh_records.specs.declared.format.Format.{Format}
 use Rattle.hh_records.specs.declared.format.Format.TheVariants as format
 use Rattle.hh_pieces.specs.Laws.{UnquotedTextsAreSplit}
@@ -218,20 +216,6 @@ module _ (names : Names) where
     lines-cut f d (inl csv) lines = rw csv (map-map (parts_by None part) (line_fields d) lines)
     lines-cut f d (inr unquoted) lines = rw unquoted (map-map (parts_by None part) (line_fields d) lines)
 
--- records that are keys and weights, or keys alone, are read as these
-pub piece-pairs : (b : Bool) (layout : Layout) (at : Places) (bytes : List ℕ)
-    → OnTrue b ((at.columns ≡ None) × (at.part ≡ part_said layout.part) × (at.format ≡ layout.format))
-    → OnTrue b ((names : Names) × (parts_in layout at bytes
-    ≡ map (λ r. parts_by None (part_said layout.part) (fields_by layout.format names r)) (rows_in layout bytes)))
-piece-pairs false layout at bytes h = tt
-piece-pairs true layout at bytes h =
-    let rows = rows_in layout bytes in (
-      at.names,
-      ap (λ columns. map (λ r. parts_by columns at.part (fields_by at.format at.names r)) rows) h.0
-          ∙ ap (λ part. map (λ r. parts_by None part (fields_by at.format at.names r)) rows) h.1
-          ∙ ap (λ f. map (λ r. parts_by None (part_said layout.part) (fields_by f at.names r)) rows) h.2,
-    )
-
 -- ---- how lines are cut
 -- at a separator none ends
 separator-differs : (d : ℕ) → is_separator d ≡ true → (d == line_feed) ≡ false
@@ -279,22 +263,21 @@ column-key part r key weight = by (field_at r key) (weight_at r weight)
     by (Some f) (Some g) = ap (λ (k : List ℕ). Some (part_of part k, g)) (sym (whole-field f))
 
 -- the parts of lines that are read by the columns of a key and of a weight
-pub lines-columns : (layout : Layout) (places : Places) (at : FieldPlaces) → (layout.format ≡ format.Csv) ⊎ (layout.format ≡ format.Unquoted)
-    → (places.columns ≡ Some (at.key ∷ [], at.weight)) × (places.part ≡ part_said layout.part) × (places.format ≡ layout.format)
+pub lines-columns : (layout : Layout) (at : FieldPlaces) → (layout.format ≡ format.Csv) ⊎ (layout.format ≡ format.Unquoted)
     → (lines : List (List ℕ))
-    → map (parts_at places) (map (line_fields (byte_between layout.format layout.delimiter)) lines)
+    → map (parts_at layout (Some (at.key ∷ [], at.weight))) (map (line_fields (byte_between layout.format layout.delimiter)) lines)
     ≡ map (line_parts (part_said layout.part) (cut.Columns layout.delimiter at)) lines
-lines-columns layout places at split h [] = refl
-lines-columns layout places at split h (line ∷ lines) = rw (one split) (rw (lines-columns layout places at split h lines) refl)
+lines-columns layout at split [] = refl
+lines-columns layout at split (line ∷ lines) = rw (one split) (rw (lines-columns layout at split lines) refl)
   where
     by : (f : Format) → (f ≡ format.Csv) ⊎ (f ≡ format.Unquoted)
-        → fields_by f places.names (line_fields (byte_between f layout.delimiter) line) ≡ line_fields layout.delimiter line
+        → fields_by f (member_names layout) (line_fields (byte_between f layout.delimiter) line) ≡ line_fields layout.delimiter line
     by f (inl csv) = rw csv refl
     by f (inr unquoted) = rw unquoted refl
 
     one : (layout.format ≡ format.Csv) ⊎ (layout.format ≡ format.Unquoted)
-        → parts_at places (line_fields (byte_between layout.format layout.delimiter) line)
+        → parts_at layout (Some (at.key ∷ [], at.weight)) (line_fields (byte_between layout.format layout.delimiter) line)
         ≡ line_parts (part_said layout.part) (cut.Columns layout.delimiter at) line
     one split =
-        rw (h.0, h.1, h.2, by layout.format split)
+        rw (by layout.format split)
         (column-key (part_said layout.part) (line_fields layout.delimiter line) at.key at.weight)

@@ -1,155 +1,44 @@
 -- What pieces of texts read as, one after the other.
 use Rattle.std.proofs.Common.{◌≡◌, ◌≤◌, ◌+◌, ◌∷◌, ◌++◌, ◌∙◌, ℕ, List, [], length, map, Bool, true, false, Option, Some, None, Result, Ok, Err, refl, sym, ap, arith}
-use Rattle.std.specs.Prelude.{◌==◌, ⊤, nat_le, option_map, option_and_then, if◌then◌else◌}
+use Rattle.std.specs.Prelude.{nat_le, option_map, option_and_then, if◌then◌else◌}
 use Rattle.std.specs.List.{AllByRecursion, flat_map}
 use Rattle.std.proofs.lemmas.Bool.Decides.{nat_tests}
 use Rattle.std.proofs.lemmas.List.{map-append}
-use Rattle.std.proofs.lemmas.List.Sums.{sum_by-append, sum_by-cons}
+use Rattle.std.proofs.lemmas.List.Sums.{sum_by-append}
 use Rattle.hh_stream.specs.Cuttings.{whole_of}
-use Rattle.hh_stream.specs.Weights.{Bytes, Entry, max_key_len, max_total, total_of}
+use Rattle.hh_stream.specs.Weights.{Entry, max_total, total_of}
 use Rattle.hh_records.specs.declared.layout.Layout.{Layout}
 use Rattle.hh_faults.specs.declared.records.BadRecordCause.{BadRecordCause}
 use Rattle.hh_faults.specs.declared.records.BadRecordCause.TheVariants as cause
 use Rattle.hh_pieces.specs.Laws.{PiecesAreRead}
 use Rattle.hh_records.specs.Formats.{byte_between, has_quotes}
-use Rattle.hh_records.specs.Layouts.{Places, added, adding_next, adds, adds_instead, adds_itself, bad_key, counted_as, gathered, headed_parts, item_by, items_after, joined, parts_at, places_in, text_parts, texts_parts, weight_by}
+use Rattle.hh_records.specs.Layouts.{Columns, added_after, adding_next, adds, adds_alone, gathered, headed_parts, items_after, joined, parts_at, columns_in, text_parts, texts_parts}
 use Rattle.hh_pieces.specs.Pieces.{InPieces, IsInPieces, all_pieces, first_piece, piece_parts, piece_reading, text_of, with_columns}
 use Rattle.hh_records.specs.Layouts.{columns_of, first_of, rows_in}
-use Rattle.hh_records.specs.Streams.{Fields, Parts, Reading, item_of_key, item_of_pair, weight_after, weight_or_cause}
+use Rattle.hh_records.specs.Streams.{Fields, Parts, Reading}
 use Rattle.hh_pieces.proofs.CutFacts.{pieces-records}
 use Rattle.hh_records.proofs.OpenFacts.{map-nothing, map-twice}
 use Rattle.hh_records.proofs.ReadFacts.{items-more, ok-eq}
 
 -- ---- records after another total
--- what is said after one total is said after the total u too, where the weight fits there
-Moves : {A : Type 0} → (A → ℕ) → ℕ → Result A BadRecordCause → Result A BadRecordCause → Type 0
-Moves weight u (Ok a) r = u + weight a ≤ max_total → r ≡ Ok a
-Moves weight u (Err cause.TotalTooLarge) r = ⊤
-Moves weight u (Err c) r = r ≡ Err c
-
-abbrev itself : ℕ → ℕ
-itself w = w
-
 abbrev weight_in : Entry → ℕ
 weight_in e = e.1
 
-weight-or-moves : (t u w : ℕ) → Moves itself u (weight_or_cause t w) (weight_or_cause u w)
-unfolding Moves
-weight-or-moves t u w = by (w == 0) (nat_le (t + w) max_total)
+-- what is added after one total is added after another, where it fits
+added-moves : (t u : ℕ) (r : Result (List Entry) BadRecordCause) (es : List Entry) → added_after t r ≡ Ok es
+    → u + total_of es ≤ max_total → added_after u r ≡ Ok es
+added-moves t u (Err c) es e l = cc e
+added-moves t u (Ok xs) es e l = by (nat_le (t + total_of xs) max_total) e
   where
-    by : (z fits : Bool)
-        → Moves itself u (if z then Err cause.ZeroWeight else if fits then Ok w else Err cause.TotalTooLarge)
-        (if z then Err cause.ZeroWeight else if nat_le (u + w) max_total then Ok w else Err cause.TotalTooLarge)
-    by true fits = refl
-    by false false = tt
-    by false true = λ l. let room : nat_le (u + w) max_total ≡ true = grind (arith, nat_tests, l) in rw room refl
+    by : (fits : Bool) → (if fits then Ok xs else Err cause.TotalTooLarge) ≡ Ok es
+        → (if nat_le (u + total_of xs) max_total then Ok xs else Err cause.TotalTooLarge) ≡ Ok es
+    by false e = cc e
+    by true e =
+        let same : xs ≡ es = cc e in
+        let room : nat_le (u + total_of xs) max_total ≡ true = rw same (grind (arith, nat_tests, l)) in
+        rw room e
 
-weight-moves : (t u : ℕ) (f : Option ℕ) → Moves itself u (weight_after t f) (weight_after u f)
-unfolding Moves
-weight-moves t u None = refl
-weight-moves t u (Some w) = weight-or-moves t u w
-
-pair-moves : (u : ℕ) (k : List ℕ) (r s : Result ℕ BadRecordCause) → Moves itself u r s
-    → Moves weight_in u (item_of_pair k r) (item_of_pair k s)
-unfolding Moves
-pair-moves u k (Ok w) s h = λ l. rw (h l) refl
-pair-moves u k (Err cause.FieldCount) s h = rw h refl
-pair-moves u k (Err cause.EmptyKey) s h = rw h refl
-pair-moves u k (Err cause.KeyTooLong) s h = rw h refl
-pair-moves u k (Err cause.BadWeight) s h = rw h refl
-pair-moves u k (Err cause.ZeroWeight) s h = rw h refl
-pair-moves u k (Err cause.TotalTooLarge) s h = tt
-
-key-moves : (t u : ℕ) (k : List ℕ) (w : Option ℕ) → Moves weight_in u (item_of_key t k w) (item_of_key u k w)
-unfolding Moves
-key-moves t u k w = by (length k == 0) (nat_le (length k) max_key_len)
-  where
-    by : (z few : Bool)
-        → Moves weight_in u
-        (if z then Err cause.EmptyKey else if few then item_of_pair k (weight_after t w) else Err cause.KeyTooLong)
-        (if z then Err cause.EmptyKey else if few then item_of_pair k (weight_after u w) else Err cause.KeyTooLong)
-    by true few = refl
-    by false false = refl
-    by false true = pair-moves u k (weight_after t w) (weight_after u w) (weight-moves t u w)
-
-item-moves : (layout : Layout) (t u : ℕ) (p : Parts) → Moves weight_in u (item_by layout t p) (item_by layout u p)
-unfolding Moves
-item-moves layout t u None = refl
-item-moves layout t u (Some (k, f)) = key-moves t u k (weight_by layout f)
-
--- what a record adds itself is the same after another total, where it fits
-itself-moves : (layout : Layout) (t u : ℕ) (p : Parts) (es : List Entry) → adds_itself layout t p ≡ Ok es
-    → u + total_of es ≤ max_total → adds_itself layout u p ≡ Ok es
-unfolding Moves
-itself-moves layout t u p es e l =
-    by (item_by layout t p) (item_by layout u p) (item-moves layout t u p) e
-  where
-    by : (r s : Result Entry BadRecordCause) → Moves weight_in u r s → added layout.allow_zero r ≡ Ok es
-        → added layout.allow_zero s ≡ Ok es
-    by (Ok a) s h e =
-        let one : a ∷ [] ≡ es = cc e in
-        let sum = sum_by-cons weight_in a [] in
-        let fits : u + a.1 ≤ max_total = omega (arith, l, sum, ap total_of one) in
-        rw (h fits) e
-    by (Err cause.FieldCount) s h e = rw h e
-    by (Err cause.EmptyKey) s h e = rw h e
-    by (Err cause.KeyTooLong) s h e = rw h e
-    by (Err cause.BadWeight) s h e = rw h e
-    by (Err cause.ZeroWeight) s h e = rw h e
-    by (Err cause.TotalTooLarge) s h e = cc e
-
--- so is what a bad record adds instead
-instead-moves : (layout : Layout) (t u : ℕ) (key : Option Bytes) (c : BadRecordCause) (es : List Entry)
-    → adds_instead layout t key c ≡ Ok es → u + total_of es ≤ max_total → adds_instead layout u key c ≡ Ok es
-instead-moves layout t u None c es e l = cc e
-instead-moves layout t u (Some key) cause.TotalTooLarge es e l = cc e
-instead-moves layout t u (Some key) cause.FieldCount es e l = itself-moves layout t u (Some (key, None)) es e l
-instead-moves layout t u (Some key) cause.EmptyKey es e l = itself-moves layout t u (Some (key, None)) es e l
-instead-moves layout t u (Some key) cause.KeyTooLong es e l = itself-moves layout t u (Some (key, None)) es e l
-instead-moves layout t u (Some key) cause.BadWeight es e l = itself-moves layout t u (Some (key, None)) es e l
-instead-moves layout t u (Some key) cause.ZeroWeight es e l = itself-moves layout t u (Some (key, None)) es e l
-
--- a test that a record fails whatever the total
-failed-moves : (layout : Layout) (t u : ℕ) (c : BadRecordCause) (allow : Bool) (es : List Entry)
-    → counted_as layout t (added allow (Err c)) ≡ Ok es → u + total_of es ≤ max_total
-    → counted_as layout u (added allow (Err c)) ≡ Ok es
-failed-moves layout t u cause.ZeroWeight true es e l = e
-failed-moves layout t u cause.ZeroWeight false es e l = instead-moves layout t u (bad_key layout) cause.ZeroWeight es e l
-failed-moves layout t u cause.FieldCount allow es e l = instead-moves layout t u (bad_key layout) cause.FieldCount es e l
-failed-moves layout t u cause.EmptyKey allow es e l = instead-moves layout t u (bad_key layout) cause.EmptyKey es e l
-failed-moves layout t u cause.KeyTooLong allow es e l = instead-moves layout t u (bad_key layout) cause.KeyTooLong es e l
-failed-moves layout t u cause.BadWeight allow es e l = instead-moves layout t u (bad_key layout) cause.BadWeight es e l
-failed-moves layout t u cause.TotalTooLarge allow es e l =
-    instead-moves layout t u (bad_key layout) cause.TotalTooLarge es e l
-
--- a total that is too large is refused
-too-large : (layout : Layout) (t : ℕ) (key : Option Bytes) (es : List Entry)
-    → adds_instead layout t key cause.TotalTooLarge ≡ Ok es → ⊥
-too-large layout t None es e = cc e
-too-large layout t (Some key) es e = cc e
-
--- and so is what a record adds
-adds-moves : (layout : Layout) (t u : ℕ) (p : Parts) (es : List Entry) → adds layout t p ≡ Ok es
-    → u + total_of es ≤ max_total → adds layout u p ≡ Ok es
-unfolding Moves
-adds-moves layout t u p es e l =
-    by (item_by layout t p) (item_by layout u p) (item-moves layout t u p) e
-  where
-    by : (r s : Result Entry BadRecordCause) → Moves weight_in u r s
-        → counted_as layout t (added layout.allow_zero r) ≡ Ok es → counted_as layout u (added layout.allow_zero s) ≡ Ok es
-    by (Ok a) s h e =
-        let one : a ∷ [] ≡ es = cc e in
-        let sum = sum_by-cons weight_in a [] in
-        let fits : u + a.1 ≤ max_total = omega (arith, l, sum, ap total_of one) in
-        rw (h fits) e
-    by (Err cause.FieldCount) s h e = rw h (failed-moves layout t u cause.FieldCount layout.allow_zero es e l)
-    by (Err cause.EmptyKey) s h e = rw h (failed-moves layout t u cause.EmptyKey layout.allow_zero es e l)
-    by (Err cause.KeyTooLong) s h e = rw h (failed-moves layout t u cause.KeyTooLong layout.allow_zero es e l)
-    by (Err cause.BadWeight) s h e = rw h (failed-moves layout t u cause.BadWeight layout.allow_zero es e l)
-    by (Err cause.ZeroWeight) s h e = rw h (failed-moves layout t u cause.ZeroWeight layout.allow_zero es e l)
-    by (Err cause.TotalTooLarge) s h e = absurd (too-large layout t (bad_key layout) es e)
-
--- so is what records add, whatever their numbers
+-- so it is with what records add, whatever their numbers
 pub items-move : (layout : Layout) (n m t u : ℕ) (ps : List Parts) (xs : List Entry) → items_after layout n t ps ≡ Ok xs
     → u + total_of xs ≤ max_total → items_after layout m u ps ≡ Ok xs
 unfolding items_after
@@ -170,7 +59,7 @@ items-move layout n m t u (p ∷ ps) xs e l =
         let both : es ++ ys ≡ xs = ok-eq (es ++ ys) xs e in
         let sum = sum_by-append weight_in es ys in
         let fits : u + (total_of es + total_of ys) ≤ max_total = omega (arith, l, sum, ap total_of both) in
-        let now = adds-moves layout t u p es is (omega (arith, fits)) in
+        let now = added-moves t u (adds_alone layout p) es is (omega (arith, fits)) in
         let rest = later es ys f (omega (arith, fits)) in
         rw (now, rest) e
 
@@ -203,53 +92,53 @@ module _ (layout : Layout) where
   parts_in : List Fields → Option (List Parts)
   parts_in rows =
       if layout.has_header then headed_parts layout rows
-      else option_map (λ at. map (parts_at at) rows) (places_in layout [])
+      else option_map (λ at. map (parts_at layout at) rows) (columns_in layout [])
 
   -- records after those that have the header are read by its columns
-  rows-more : (rows : List Fields) (at : Places) → columns_of layout rows ≡ Some at
+  rows-more : (rows : List Fields) (at : Columns) → columns_of layout rows ≡ Some at
       → (ps : List Parts) × (parts_in rows ≡ Some ps)
-      × ((more : List Fields) → parts_in (rows ++ more) ≡ Some (ps ++ map (parts_at at) more))
+      × ((more : List Fields) → parts_in (rows ++ more) ≡ Some (ps ++ map (parts_at layout at) more))
   unfolding parts_in
   rows-more rows at e = by layout.has_header rows e
     where
       by : (b : Bool) (rows : List Fields)
-          → option_and_then (places_in layout) (if b then first_of rows else Some []) ≡ Some at
+          → option_and_then (columns_in layout) (if b then first_of rows else Some []) ≡ Some at
           → (ps : List Parts)
-          × ((if b then headed_parts layout rows else option_map (λ at. map (parts_at at) rows) (places_in layout [])) ≡ Some ps)
+          × ((if b then headed_parts layout rows else option_map (λ at. map (parts_at layout at) rows) (columns_in layout [])) ≡ Some ps)
           × ((more : List Fields)
-          → (if b then headed_parts layout (rows ++ more) else option_map (λ at. map (parts_at at) (rows ++ more)) (places_in layout []))
-          ≡ Some (ps ++ map (parts_at at) more))
+          → (if b then headed_parts layout (rows ++ more) else option_map (λ at. map (parts_at layout at) (rows ++ more)) (columns_in layout []))
+          ≡ Some (ps ++ map (parts_at layout at) more))
       by true [] e = cc e
       by true (h ∷ rows) e = (
-        map (parts_at at) rows,
+        map (parts_at layout at) rows,
         rw e refl,
-        λ more. rw (e, map-append (parts_at at) rows more) refl,
+        λ more. rw (e, map-append (parts_at layout at) rows more) refl,
       )
       by false rows e = (
-        map (parts_at at) rows,
+        map (parts_at layout at) rows,
         rw e refl,
-        λ more. rw (e, map-append (parts_at at) rows more) refl,
+        λ more. rw (e, map-append (parts_at layout at) rows more) refl,
       )
 
-  no-parts : (at : Places) → columns_of layout [] ≡ Some at → parts_in [] ≡ Some []
+  no-parts : (at : Columns) → columns_of layout [] ≡ Some at → parts_in [] ≡ Some []
   unfolding parts_in
   no-parts at e = by layout.has_header e
     where
-      by : (b : Bool) → option_and_then (places_in layout) (if b then first_of [] else Some []) ≡ Some at
-          → (if b then headed_parts layout [] else option_map (λ at. map (parts_at at) []) (places_in layout [])) ≡ Some []
+      by : (b : Bool) → option_and_then (columns_in layout) (if b then first_of [] else Some []) ≡ Some at
+          → (if b then headed_parts layout [] else option_map (λ at. map (parts_at layout at) []) (columns_in layout [])) ≡ Some []
       by true e = refl
       by false e = rw e refl
 
-  parts_of_piece : Option Places × List ℕ → Option (List Parts)
+  parts_of_piece : Option Columns × List ℕ → Option (List Parts)
   parts_of_piece piece = piece_parts layout piece.0 piece.1
 
-  later-parts : (at : Places) (pieces : List (List ℕ))
+  later-parts : (at : Columns) (pieces : List (List ℕ))
       → gathered parts_of_piece (map (λ q. (Some at, q)) pieces)
-      ≡ Some (map (parts_at at) (flat_map (rows_in layout) pieces))
+      ≡ Some (map (parts_at layout at) (flat_map (rows_in layout) pieces))
   unfolding gathered parts_of_piece
   later-parts at [] = refl
   later-parts at (q ∷ pieces) =
-      rw (later-parts at pieces, map-append (parts_at at) (rows_in layout q) (flat_map (rows_in layout) pieces)) refl
+      rw (later-parts at pieces, map-append (parts_at layout at) (rows_in layout q) (flat_map (rows_in layout) pieces)) refl
 
   -- the records of a text are those of its pieces
   text-pieces : (t : InPieces) → IsInPieces layout t
@@ -278,14 +167,14 @@ module _ (layout : Layout) where
       rw (text-pieces t are.0, texts-pieces texts are.1)
       (sym (gathered-append parts_of_piece (with_columns t.columns t.pieces) (all_pieces texts)))
 
-  reading_of : Option Places × List ℕ → Option Reading
+  reading_of : Option Columns × List ℕ → Option Reading
   reading_of piece = piece_reading layout piece.0 piece.1
 
   abbrev read_as : List Entry → Option Reading
   read_as xs = Some (Ok xs)
 
   -- pieces that are read by themselves are read one after the other
-  pieces-read : (n t : ℕ) (pieces : List (Option Places × List ℕ)) (parts : List (List Entry))
+  pieces-read : (n t : ℕ) (pieces : List (Option Columns × List ℕ)) (parts : List (List Entry))
       → map (λ piece. piece_reading layout piece.0 piece.1) pieces ≡ map read_as parts
       → t + total_of (whole_of parts) ≤ max_total
       → (ps : List Parts) × (gathered parts_of_piece pieces ≡ Some ps)

@@ -229,7 +229,7 @@ module _ (d : ℕ) (other : (d == 10) ≡ false) (text : List ℕ) (mark : ℕ) 
       ∙ cut-place d (take at (drop (mark_len text) text))
       ∙ ap (λ m. is_open (place_after d (take at (drop m text)))) (sym is)
 
-  pub cut-from-line : (at : ℕ) → mark + at < length text → IsFeedAt d (drop mark text) at → IsCutAt (delimited d) text (mark + at)
+  cut-from-line : (at : ℕ) → mark + at < length text → IsFeedAt d (drop mark text) at → IsCutAt (delimited d) text (mark + at)
   cut-from-line at l h = record {
     outside = rw other (cut-state at ∙ h.outside);
     feed = line-drop text (mark + at) l ∙ eq-eqb (get_or text (mark + at) 0) 10 (sym (body-at at) ∙ h.feed);

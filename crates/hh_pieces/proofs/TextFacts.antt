@@ -11,7 +11,7 @@ use Rattle.hh_records.specs.declared.layout.Layout.{Layout}
 use Rattle.hh_faults.specs.declared.records.TextError.{TextError}
 use Rattle.hh_faults.specs.declared.records.TextError.TheVariants as text
 use Rattle.hh_records.specs.Laws.{PlainLayoutsReadStreams}
-use Rattle.hh_records.specs.Layouts.{ColumnsRefused, FindsColumns, IsPlain, OpenRefused, Places, RowsRefused, TextsRefused, config_of, every, gathered, headed_parts, items_after, joined, names_columns, parts_at, places_in, rows_in, stream_with, text_parts, texts_parts}
+use Rattle.hh_records.specs.Layouts.{ColumnsRefused, FindsColumns, IsPlain, OpenRefused, Columns, RowsRefused, TextsRefused, config_of, every, gathered, headed_parts, items_after, joined, names_columns, parts_at, columns_in, rows_in, stream_with, text_parts, texts_parts}
 use Rattle.hh_records.specs.Streams.{Fields, Parts, Reading, stream_of, text_known}
 use Rattle.hh_records.proofs.OpenFacts.{every-first, gathered-first, gathered-push, items-refused, map-nothing, map-twice, some-is}
 use Rattle.hh_records.proofs.ReadFacts.{items-more, joined-none, joined-twice}
@@ -37,7 +37,7 @@ module _ (layout : Layout) (headed : layout.has_header ≡ true) (row : Fields) 
   text-headed : (bytes : List ℕ) → text_parts layout bytes ≡ headed_parts layout (records cfg (strip_bom bytes))
   text-headed bytes = rw headed refl
 
-  pub header-chooses : (at : Places) → LeavesRecords cfg all p q true row → places_in layout row ≡ Some at
+  pub header-chooses : (at : Columns) → LeavesRecords cfg all p q true row → columns_in layout row ≡ Some at
       → Chooses layout p (Some at) q
   header-chooses at h places = by p q h
     where
@@ -47,7 +47,7 @@ module _ (layout : Layout) (headed : layout.has_header ≡ true) (row : Fields) 
       by (Some xs) (Some ys) (fs, kept, rows) =
           let same = all-kept fs row kept in
           text-headed xs ∙ ap (headed_parts layout) rows
-          ∙ ap (option_map (λ at. map (parts_at at) (rows_in layout ys))) (ap (places_in layout) (sym same) ∙ places)
+          ∙ ap (option_map (λ at. map (parts_at layout at) (rows_in layout ys))) (ap (columns_in layout) (sym same) ∙ places)
 
   pub header-missing : LeavesRecords cfg all p q false row → Chooses layout p None q
   header-missing h = by p q h
@@ -57,7 +57,7 @@ module _ (layout : Layout) (headed : layout.has_header ≡ true) (row : Fields) 
       by (Some xs) None h = h
       by (Some xs) (Some ys) h = text-headed xs ∙ ap (headed_parts layout) h.0
 
-  pub header-finds : (at : Places) → LeavesRecords cfg all p q true row → places_in layout row ≡ Some at
+  pub header-finds : (at : Columns) → LeavesRecords cfg all p q true row → columns_in layout row ≡ Some at
       → IfSome p (λ bytes. FindsColumns layout (rows_in layout bytes) (Some at))
   header-finds at h places = by p q h
     where
@@ -67,7 +67,7 @@ module _ (layout : Layout) (headed : layout.has_header ≡ true) (row : Fields) 
       by (Some xs) None h = absurd h
       by (Some xs) (Some ys) (fs, kept, rows) =
           let same = all-kept fs row kept in
-          rw (headed, rows) (ap (places_in layout) (sym same) ∙ places)
+          rw (headed, rows) (ap (columns_in layout) (sym same) ∙ places)
 
   pub missing-finds : LeavesRecords cfg all p q false row → IfSome p (λ bytes. FindsColumns layout (rows_in layout bytes) None)
   missing-finds h = by p q h
@@ -79,7 +79,7 @@ module _ (layout : Layout) (headed : layout.has_header ≡ true) (row : Fields) 
       by (Some xs) (Some ys) h = rw (headed, h.0) refl
 
   pub header-refused : (error : TextError) → LeavesRecords cfg all p q true row
-      → ColumnsRefused layout (places_in layout row) error
+      → ColumnsRefused layout (columns_in layout row) error
       → OpenRefused (names_columns layout) (option_map (text_parts layout) p) error
   header-refused text.Memory h refused = tt
   header-refused text.ReadFault h refused = absurd refused
@@ -93,18 +93,18 @@ module _ (layout : Layout) (headed : layout.has_header ≡ true) (row : Fields) 
       by (Some xs) (Some ys) (fs, kept, rows) =
           let same = all-kept fs row kept in
           text-headed xs ∙ ap (headed_parts layout) rows
-          ∙ ap (option_map (λ at. map (parts_at at) (rows_in layout ys))) (ap (places_in layout) (sym same) ∙ refused.1)
+          ∙ ap (option_map (λ at. map (parts_at layout at) (rows_in layout ys))) (ap (columns_in layout) (sym same) ∙ refused.1)
 
 -- where it is to have none
 module _ (layout : Layout) (plain : layout.has_header ≡ false) (p : Option (List ℕ)) where
-  pub plain-chooses : (at : Places) → places_in layout [] ≡ Some at → Chooses layout p (Some at) p
+  pub plain-chooses : (at : Columns) → columns_in layout [] ≡ Some at → Chooses layout p (Some at) p
   plain-chooses at places = by p
     where
       by : (p : Option (List ℕ)) → Chooses layout p (Some at) p
       by None = tt
       by (Some xs) = rw (plain, places) refl
 
-  pub plain-finds : (at : Places) → places_in layout [] ≡ Some at
+  pub plain-finds : (at : Columns) → columns_in layout [] ≡ Some at
       → IfSome p (λ bytes. FindsColumns layout (rows_in layout bytes) (Some at))
   plain-finds at places = by p
     where
@@ -112,7 +112,7 @@ module _ (layout : Layout) (plain : layout.has_header ≡ false) (p : Option (Li
       by None = tt
       by (Some xs) = rw plain places
 
-  pub plain-refused : (error : TextError) → ColumnsRefused layout (places_in layout []) error
+  pub plain-refused : (error : TextError) → ColumnsRefused layout (columns_in layout []) error
       → OpenRefused (names_columns layout) (option_map (text_parts layout) p) error
   plain-refused text.Memory refused = tt
   plain-refused text.ReadFault refused = absurd refused

@@ -7,7 +7,7 @@ use Rattle.csv.specs.declared.parser.Config.{Config}
 use Rattle.hh_stream.specs.Taking.{Takes}
 use Rattle.hh_stream.specs.Weights.{Entry, max_total, total_of}
 use Rattle.hh_records.specs.Formats.{byte_between, has_quotes}
-use Rattle.hh_records.specs.Layouts.{Places, RecordRefused, RowsRefused, adds, config_of, items_after, joined, parts_at, rows_in}
+use Rattle.hh_records.specs.Layouts.{Columns, RecordRefused, RowsRefused, adds, config_of, items_after, joined, parts_at, rows_in}
 use Rattle.hh_records.specs.Streams.{Fields, Parts}
 use Rattle.hh_records.specs.declared.layout.Layout.{Layout}
 use Rattle.hh_faults.specs.declared.records.TextError.{TextError}
@@ -54,7 +54,7 @@ module _ (config : Config) where
   outside-end (Some xs) None held h end outside = absurd h
   outside-end (Some xs) (Some rest) held h end outside = h (rw (end, append-nil held) outside)
 
-module _ (layout : Layout) (at : Places) where
+module _ (layout : Layout) (at : Columns) where
   -- what is left where nothing was read
   pub leaves-first : (before t : ℕ) (known : Option (List ℕ)) → LeavesBytes layout at before t known [] before known
   unfolding items_after
@@ -85,7 +85,7 @@ module _ (layout : Layout) (at : Places) where
       (λ ps. (items_after layout (before + 1) t ps ≡ Ok xs) × (after ≡ before + length ps))
   leaves-all before after t xs None h = tt
   leaves-all before after t xs (Some bytes) (ps, all, items, count) =
-      let none : parts_in layout at [] ≡ [] = ap (map (parts_at at)) (no-records (config_of layout)) in
+      let none : parts_in layout at [] ≡ [] = ap (map (parts_at layout at)) (no-records (config_of layout)) in
       let same : parts_in layout at bytes ≡ ps = all ∙ ap (λ (rs : List Parts). ps ++ rs) none ∙ append-nil ps in
       rw same (items, count)
 
@@ -118,8 +118,8 @@ module _ (layout : Layout) (at : Places) where
         let here : IsCut (config_of layout) a b =
         record { outside = cut.outside; feed = feed-append (drop count held) rest cut.feed } in
         ap (parts_in layout at) parts
-        ∙ ap (map (parts_at at)) (parts-records (has_quotes layout.format) (byte_between layout.format layout.delimiter) a b here)
-        ∙ map-append (parts_at at) (rows_in layout a) (rows_in layout b)
+        ∙ ap (map (parts_at layout at)) (parts-records (has_quotes layout.format) (byte_between layout.format layout.delimiter) a b here)
+        ∙ map-append (parts_at layout at) (rows_in layout a) (rows_in layout b)
 
     pub front-leaves : (after : ℕ) (xs : List Entry) → PieceAdds layout at before t (take count held) xs after
         → (rest : Option (List ℕ))
@@ -163,7 +163,7 @@ module _ (layout : Layout) (at : Places) where
         by (Some rest) end =
             let ps : List Parts = parts_in layout at held in
             let all : parts_in layout at (held ++ rest) ≡ ps = ap (parts_in layout at) (ap (λ r. held ++ r) end ∙ append-nil held) in
-            let none : parts_in layout at [] ≡ [] = ap (map (parts_at at)) (no-records (config_of layout)) in
+            let none : parts_in layout at [] ≡ [] = ap (map (parts_at layout at)) (no-records (config_of layout)) in
             (ps, all ∙ sym (append-nil ps) ∙ ap (λ (rs : List Parts). ps ++ rs) (sym none), adds.0, adds.1)
 
     pub last-refused : (error : TextError) → RowsRefused layout before t (Some (parts_in layout at held)) error
@@ -182,9 +182,9 @@ module _ (layout : Layout) (at : Places) where
 
   -- ---- a record that is read byte by byte
   module _ (limits : Limits) (before t : ℕ) (p q : Option (List ℕ)) (row : Fields)
-      (same : (fs : Fields) → adds layout t (parts_at at (kept_of limits fs)) ≡ adds layout t (parts_at at fs)) where
+      (same : (fs : Fields) → adds layout t (parts_at layout at (kept_of limits fs)) ≡ adds layout t (parts_at layout at fs)) where
     pub record-leaves : (es : List Entry) → LeavesRecords (config_of layout) limits p q true row
-        → adds layout t (parts_at at row) ≡ Ok es → LeavesBytes layout at before t p es (before + 1) q
+        → adds layout t (parts_at layout at row) ≡ Ok es → LeavesBytes layout at before t p es (before + 1) q
     unfolding items_after
     record-leaves es h added = by p q h
       where
@@ -193,14 +193,14 @@ module _ (layout : Layout) (at : Places) where
         by None q h = tt
         by (Some xs) None h = h
         by (Some xs) (Some ys) (fs, kept, all) =
-            (parts_at at fs ∷ [], ap (map (parts_at at)) all, one-record fs (sym (same fs) ∙ ap (λ r. adds layout t (parts_at at r)) (sym kept) ∙ added), omega arith)
+            (parts_at layout at fs ∷ [], ap (map (parts_at layout at)) all, one-record fs (sym (same fs) ∙ ap (λ r. adds layout t (parts_at layout at r)) (sym kept) ∙ added), omega arith)
           where
-            one-record : (fs : Fields) → adds layout t (parts_at at fs) ≡ Ok es
-                → items_after layout (before + 1) t (parts_at at fs ∷ []) ≡ Ok es
+            one-record : (fs : Fields) → adds layout t (parts_at layout at fs) ≡ Ok es
+                → items_after layout (before + 1) t (parts_at layout at fs ∷ []) ≡ Ok es
             one-record fs e = rw e (ap Ok (append-nil es))
 
     pub record-refused : (error : TextError) → LeavesRecords (config_of layout) limits p q true row
-        → RecordRefused (before + 1) (adds layout t (parts_at at row)) error
+        → RecordRefused (before + 1) (adds layout t (parts_at layout at row)) error
         → RowsRefused layout before t (option_map (parts_in layout at) p) error
     unfolding items_after
     record-refused text.Memory h refused = tt
@@ -211,10 +211,10 @@ module _ (layout : Layout) (at : Places) where
         by None q h = tt
         by (Some xs) None h = absurd h
         by (Some xs) (Some ys) (fs, kept, all) =
-            rw all (one-refused fs (rows_in layout ys) (sym (same fs) ∙ ap (λ r. adds layout t (parts_at at r)) (sym kept) ∙ added))
+            rw all (one-refused fs (rows_in layout ys) (sym (same fs) ∙ ap (λ r. adds layout t (parts_at layout at r)) (sym kept) ∙ added))
           where
-            one-refused : (fs : Fields) (others : List Fields) → adds layout t (parts_at at fs) ≡ Err c
-                → items_after layout (before + 1) t (map (parts_at at) (fs ∷ others)) ≡ Err (n, c)
+            one-refused : (fs : Fields) (others : List Fields) → adds layout t (parts_at layout at fs) ≡ Err c
+                → items_after layout (before + 1) t (map (parts_at layout at) (fs ∷ others)) ≡ Err (n, c)
             one-refused fs others e = rw (e, number) refl
     record-refused _ h refused = absurd refused
 
@@ -241,7 +241,7 @@ module _ (layout : Layout) (at : Places) where
 
 -- ---- pieces
 -- what the records of a piece add that ends outside quotes, with no other before them
-pub piece-by : (layout : Layout) (at : Places) (t n : ℕ) (xs : List Entry) (p : Option (List ℕ))
+pub piece-by : (layout : Layout) (at : Columns) (t n : ℕ) (xs : List Entry) (p : Option (List ℕ))
     → LeavesBytes layout at 0 t p xs n (Some []) → IfSome p (λ bytes. ends_outside (config_of layout) bytes ≡ true)
     → total_of xs ≤ max_total → IfSome p (λ bytes. piece_items layout (Some at, bytes) ≡ Some xs)
 piece-by layout at t n xs None h outside few = tt

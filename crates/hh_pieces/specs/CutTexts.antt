@@ -2,7 +2,7 @@
 use Rattle.std.specs.Prelude.{◌≡◌, ◌-◌, ◌≤◌, ◌++◌, ℕ, List, [], length, map, replicate, Option, Some, None, Ok, Err, if◌then◌else◌}
 use Rattle.hh_stream.specs.Cuttings.{whole_of}
 use Rattle.hh_stream.specs.Weights.{Entry, max_total, total_of}
-use Rattle.hh_records.specs.Layouts.{Places, config_of, stream_with}
+use Rattle.hh_records.specs.Layouts.{Columns, config_of, stream_with}
 use Rattle.hh_pieces.specs.Pieces.{InPieces, LaterBeginWithFeed, ends_outside, first_piece, piece_reading}
 use Rattle.hh_records.specs.Layouts.{columns_of, rows_in}
 use Rattle.hh_records.specs.Streams.{Reading}
@@ -14,7 +14,7 @@ use Rattle.hh_faults.specs.declared.records.TextError.TheVariants as text
 
 -- a piece's bytes, and the columns that it is read by
 abbrev pub Piece : Type 0
-Piece = Option Places × List ℕ
+Piece = Option Columns × List ℕ
 
 -- why a piece was not read, by what refused it
 abbrev pub piece_fault : TextError → PieceFault

@@ -10,7 +10,7 @@ use Rattle.csv.specs.declared.parser.State.TheVariants as st
 use Rattle.hh_stream.specs.Cuttings.{whole_of}
 use Rattle.hh_stream.specs.Weights.{Entry}
 use Rattle.hh_records.specs.Formats.{byte_between, has_quotes}
-use Rattle.hh_records.specs.Layouts.{Places, columns_of, config_of, configured, delimited, items_after, parts_at, rows_in, text_parts}
+use Rattle.hh_records.specs.Layouts.{Columns, columns_of, config_of, configured, delimited, items_after, parts_at, rows_in, text_parts}
 use Rattle.hh_records.specs.Streams.{Parts, Reading}
 use Rattle.hh_records.specs.declared.format.Format.{Format}
 use Rattle.hh_records.specs.declared.layout.Layout.{Layout}
@@ -75,22 +75,22 @@ LaterBeginWithFeed pieces = AllByRecursion (λ p. begins_with_feed p ≡ true) (
 -- ---- what a piece reads as
 -- the records of a piece, each as its key and its weight's field: of a later piece by the columns that
 -- the first of its text chose, and of the first piece as of a text
-abbrev pub piece_parts : Layout → Option Places → List ℕ → Option (List Parts)
+abbrev pub piece_parts : Layout → Option Columns → List ℕ → Option (List Parts)
 piece_parts layout None bytes = text_parts layout bytes
-piece_parts layout (Some at) bytes = Some (map (parts_at at) (rows_in layout bytes))
+piece_parts layout (Some at) bytes = Some (map (parts_at layout at) (rows_in layout bytes))
 
 -- what a piece reads as by itself, or nothing where its header lacks a column
-abbrev pub piece_reading : Layout → Option Places → List ℕ → Option Reading
+abbrev pub piece_reading : Layout → Option Columns → List ℕ → Option Reading
 piece_reading layout columns bytes =
     option_map (items_after layout 1 0) (piece_parts layout columns bytes)
 
 -- the records of some bytes, each as its key and its weight's field
-abbrev pub parts_in : Layout → Places → List ℕ → List Parts
-parts_in layout at bytes = map (parts_at at) (rows_in layout bytes)
+abbrev pub parts_in : Layout → Columns → List ℕ → List Parts
+parts_in layout at bytes = map (parts_at layout at) (rows_in layout bytes)
 
 -- the records of a piece add these items after a total of t and the records before, with which there
 -- are after of them
-abbrev pub PieceAdds : Layout → Places → ℕ → ℕ → List ℕ → List Entry → ℕ → Type 0
+abbrev pub PieceAdds : Layout → Columns → ℕ → ℕ → List ℕ → List Entry → ℕ → Type 0
 PieceAdds layout at before t bytes xs after =
     (items_after layout (before + 1) t (parts_in layout at bytes) ≡ Ok xs)
     × (after ≡ before + length (parts_in layout at bytes))
@@ -99,7 +99,7 @@ PieceAdds layout at before t bytes xs after =
 -- a text in pieces, and the columns that its first piece chooses
 pub record InPieces : Type 0 where
   pub pieces : List (List ℕ)
-  pub columns : Places
+  pub columns : Columns
 
 -- the first piece, or an empty one where there are no pieces
 abbrev pub first_piece : List (List ℕ) → List ℕ
@@ -112,12 +112,12 @@ pub record IsInPieces (layout : Layout) (t : InPieces) : Type 0 where
   pub columns : columns_of layout (rows_in layout (first_piece t.pieces)) ≡ Some t.columns
 
 -- the pieces of a text, each with the columns that it is read by
-abbrev pub with_columns : Places → List (List ℕ) → List (Option Places × List ℕ)
+abbrev pub with_columns : Columns → List (List ℕ) → List (Option Columns × List ℕ)
 with_columns at [] = []
 with_columns at (p ∷ ps) = (None, p) ∷ map (λ q. (Some at, q)) ps
 
 -- the pieces of all texts, one text after the other
-abbrev pub all_pieces : List InPieces → List (Option Places × List ℕ)
+abbrev pub all_pieces : List InPieces → List (Option Columns × List ℕ)
 all_pieces texts = flat_map (λ t. with_columns t.columns t.pieces) texts
 
 abbrev pub text_of : InPieces → List ℕ

@@ -2,7 +2,7 @@
 use Rattle.std.specs.Prelude.{◌≡◌, ◌+◌, ℕ, List, [], ◌∷◌, ◌++◌, length, Option, Some, None, Ok, IfSome, option_map, ⊤}
 use Rattle.std.specs.Io.KnownBytes.{prepend_known}
 use Rattle.hh_stream.specs.Weights.{Entry}
-use Rattle.hh_records.specs.Layouts.{Places, every, gathered, items_after, text_parts, texts_known, texts_parts}
+use Rattle.hh_records.specs.Layouts.{Columns, every, gathered, items_after, text_parts, texts_known, texts_parts}
 use Rattle.hh_records.specs.Streams.{Known, Parts}
 use Rattle.hh_records.specs.declared.layout.Layout.{Layout}
 use Rattle.hh_pieces.specs.Pieces.{parts_in}
@@ -20,7 +20,7 @@ parts_left remaining layout text = option_map (parts_in layout text.columns) (by
 
 -- where all bytes are known, the first records of some of them add these items after a total of t and
 -- the records before, with which there are after of them, and these bytes are left
-abbrev pub LeavesBytes : Layout → Places → ℕ → ℕ → Option (List ℕ) → List Entry → ℕ → Option (List ℕ) → Type 0
+abbrev pub LeavesBytes : Layout → Columns → ℕ → ℕ → Option (List ℕ) → List Entry → ℕ → Option (List ℕ) → Type 0
 LeavesBytes layout at before t None xs after left = ⊤
 LeavesBytes layout at before t (Some bytes) xs after None = ⊥
 LeavesBytes layout at before t (Some bytes) xs after (Some left) =
@@ -29,7 +29,7 @@ LeavesBytes layout at before t (Some bytes) xs after (Some left) =
 
 -- where all bytes are known, these columns are those of a text that reads so, with the bytes that it has left
 -- then; or it was to have a header and has no record
-abbrev pub Chooses : Layout → Option (List ℕ) → Option Places → Option (List ℕ) → Type 0
+abbrev pub Chooses : Layout → Option (List ℕ) → Option Columns → Option (List ℕ) → Type 0
 Chooses layout None columns left = ⊤
 Chooses layout (Some bytes) columns None = ⊥
 Chooses layout (Some bytes) None (Some left) = text_parts layout bytes ≡ Some []

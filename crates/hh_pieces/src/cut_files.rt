@@ -10,12 +10,11 @@ ghost use Rattle.hh_pieces.specs.Pieces.{begins_with_feed};
 
 use crate::feeding::feed_left;
 use crate::laws::{feeds_outside_quotes_are_cuts, pieces_are_read};
-use crate::pieces::Columns;
 use crate::read_at::{ReadAt, read_between};
 use crate::texts::choose_columns;
 use crate::window::{Window, zeros};
 use hh_faults::TextError;
-use hh_records::Layout;
+use hh_records::{Columns, Layout};
 use hh_stream::{PieceFault, TakeItems};
 use memchr::memchr;
 use std::alloc::{AllocError, Global};

@@ -1,13 +1,14 @@
 //! Where a text of records may be cut.
 
-ghost use Rattle.std.specs.Prelude.{◌≡◌, ◌≤◌, ◌<◌, IfSome, length, take};
+ghost use Rattle.std.specs.Prelude.{◌≡◌, ◌≤◌, IfSome, length, take};
 ghost use Rattle.memchr.specs.Find.{IsLast};
 ghost use Rattle.hh_pieces.specs.Pieces.{IsCutAt, config_by, ends_outside};
 ghost use Rattle.hh_pieces.specs.Quotes as spec;
+ghost use Rattle.hh_records.specs.Layouts.{config_of};
 ghost use Rattle.hh_pieces.specs.Quotes.{IsFeedAt, NoQuote, place_after};
 
 use crate::fields::field_end;
-use hh_records::Format;
+use hh_records::{Format, Layout};
 use memchr::{memchr, memrchr};
 
 /// A place in a text, as far as it tells what a quote does there.
@@ -179,60 +180,6 @@ pub fn whole_records(text: &[u8], format: Format, delimiter: u8) -> Option<usize
     }
 }
 
-// `csv` reads on as long as the next quote stands within this many bytes of the end of a record.
-const NEAR: usize = 256;
-
-/// Whether a quote stands near the end of a record at `at`.
-fn has_quote_near(text: &[u8], at: usize) -> bool
-    requires { at ≤ length text.now }
-{
-    let near = text.len().min(at.saturating_add(NEAR));
-    memchr(b'"', &text[at..near]).is_some()
-}
-
-/// Finds where the whole records at the front of `text` end that `csv` has to read: behind the
-/// first of their ends that no quote stands near, or behind the last.
-fn quoted_end(text: &[u8], delimiter: u8) -> Option<usize>
-    ensures { IfSome result (λ at. (0 < at) × (at < length text.now)
-        × IsFeedAt delimiter text.now at) }
-{
-    let mut place = QuoteState::Start;
-    let mut from = 0;
-    let mut last = None;
-    while from < text.len() {
-        let at = field_end(text, from, b'"');
-        if at == text.len() {
-            return last;
-        }
-        let before = run_after(text, from, at, place, delimiter);
-        if 0 < at && text[at] == b'\n' && is_open(before) {
-            last = Some(at);
-            if !has_quote_near(text, at) {
-                return last;
-            }
-        }
-        place = place_next(before, text[at], delimiter);
-        from = at + 1;
-    }
-    last
-}
-
-/// Finds how many bytes at the front of `text` are whole records that `csv` has to read.
-fn quoted_records(text: &[u8], format: Format, delimiter: u8) -> Option<usize>
-    ensures { IfSome result (λ count. (0 < count) × (count < length text.now)
-        × IsCutAt (config_by format delimiter) text.now count) }
-{
-    let between = format.byte_between(delimiter);
-    if !format.has_quotes() || between == b'\n' {
-        return None;
-    }
-    let mark = mark_len(text);
-    match quoted_end(&text[mark..], between) {
-        Some(at) => Some(mark + at),
-        None => None,
-    }
-}
-
 /// Gives how many bytes stand before the first quote, where the format has quotes.
 fn plain_len(text: &[u8], format: Format) -> usize
     ensures { result ≤ length text.now }
@@ -246,15 +193,33 @@ fn plain_len(text: &[u8], format: Format) -> usize
     }
 }
 
-/// Finds how many bytes at the front of `text` are whole records that are read in one way: those
-/// before the line of the first quote or, if there are none, those that `csv` has to read.
-pub(crate) fn records_alike(text: &[u8], format: Format, delimiter: u8) -> Option<usize>
-    ensures { IfSome result (λ count. (0 < count) × (count < length text.now)
+/// Gives how many bytes of a part of a text are whole records before the line of the first quote.
+pub(crate) fn plain_records(text: &[u8], format: Format, delimiter: u8) -> Option<usize>
+    ensures { IfSome result (λ count. (count ≤ length text.now)
         × IsCutAt (config_by format delimiter) text.now count) }
 {
     let plain = plain_len(text, format);
-    match whole_records(&text[..plain], format, delimiter) {
-        Some(count) if count > 0 => Some(count),
-        Some(_) | None => quoted_records(text, format, delimiter),
+    whole_records(&text[..plain], format, delimiter)
+}
+
+/// Whether the first line of a text that is not blank has a quote.
+pub(crate) fn begins_with_quotes(text: &[u8]) -> bool {
+    let mut from = 0;
+    while from < text.len() && (text[from] == b'\r' || text[from] == b'\n') {
+        from += 1;
     }
+    let at = field_end(text, from, b'"');
+    at < text.len() && text[at] == b'"'
+}
+
+/// Gives how many bytes at the front of a part of a text of `layout` are whole records: those before
+/// the line of the first quote where quotes are read apart, and else all.
+pub(crate) fn front_records(text: &[u8], quotes_apart: bool, layout: &Layout) -> Option<usize>
+    ensures { IfSome result (λ count. (count ≤ length text.now)
+        × IsCutAt (config_of layout.now) text.now count) }
+{
+    if quotes_apart {
+        return plain_records(text, layout.format, layout.delimiter);
+    }
+    whole_records(text, layout.format, layout.delimiter)
 }

@@ -7,11 +7,10 @@ ghost use Rattle.hh_pieces.specs.CutTexts.{piece_fault, piece_items};
 ghost use Rattle.hh_pieces.specs.Windows.{held_in};
 ghost use Rattle.hh_stream.specs.Taking.{Takes};
 
-use crate::pieces::Columns;
 use crate::texts::{MOST_HELD, choose_columns, read_window};
 use crate::window::Window;
 use hh_faults::TextError;
-use hh_records::Layout;
+use hh_records::{Columns, Layout};
 use hh_stream::{PieceFault, TakeItems};
 use std::alloc::Global;
 use std::io::Read;

@@ -7,13 +7,6 @@ ghost use Rattle.hh_pieces.specs.Lines as spec;
 
 use hh_records::KeyPart;
 
-/// Whether two parts are the same.
-pub(crate) fn is_same_part(part: &KeyPart, other: &KeyPart) -> bool
-    ensures { OnTrue result (part_said part.now ≡ part_said other.now) }
-{
-    part.prefix == other.prefix && part.until.as_slice() == other.until.as_slice()
-}
-
 /// Gives the key and the weight's field of a line, with a `part` of the key in its place. The part
 /// is the whole key where it `is_whole`.
 #[inline(always)]

@@ -6,7 +6,8 @@ ghost use Rattle.std.specs.Prelude.{◌≡◌, ◌≤◌, ◌<◌, ◌-◌, ◌+
 ghost use Rattle.csv.specs.Machine.{ends_at_end, field_after, fields_after, in_field, is_end, start_field, step};
 ghost use Rattle.csv.specs.Reading.{strip_bom};
 ghost use Rattle.csv.specs.Records.{fields_of};
-ghost use Rattle.hh_records.specs.Layouts.{adds, chosen_places, parts_at};
+ghost use Rattle.hh_stream.specs.Weights.{max_key_len};
+ghost use Rattle.hh_records.specs.Layouts.{adds, parts_at};
 ghost use Rattle.hh_records.specs.Streams.{Fields};
 ghost use Rattle.hh_pieces.specs.LongRecords as spec;
 ghost use Rattle.hh_pieces.specs.Pieces.{is_outside};
@@ -17,7 +18,7 @@ use crate::cuts::mark_len;
 use crate::window::Window;
 use csv::ByteRecord;
 use hh_faults::TextError;
-use hh_records::{ChosenLayout, ColumnIndices, Layout};
+use hh_records::{ColumnIndices, Columns, Layout};
 use hh_stream::MAX_KEY_LEN;
 use std::alloc::{AllocError, Global};
 use std::io::Read;
@@ -133,6 +134,14 @@ fn fields_read(columns: &ColumnIndices) -> Option<usize>
     last.checked_add(1)
 }
 
+/// Gives how many bytes make a field too long for a key, and for a weight with these `decimals`.
+fn least_long(decimals: u8) -> usize
+    ensures key { max_key_len < result }
+    ensures small { decimals ≤ 255 }
+{
+    MAX_KEY_LEN.max(MOST_WHOLE + decimals as usize) + 1
+}
+
 impl Limits {
     /// All is kept.
     pub(crate) const NONE: Limits = Limits {
@@ -140,25 +149,22 @@ impl Limits {
         bytes: None,
     };
 
-    /// Gives how much is kept of records that are read as `chosen` says, by a layout with these
-    /// `decimals`: all, or what decides what they add.
-    pub(crate) fn of(chosen: &ChosenLayout, decimals: u8) -> Limits
-        ensures { (layout : Layout) (t : ℕ) (fs : Fields) → layout.decimals ≡ decimals
-            → adds layout t (parts_at (chosen_places chosen.now) (spec.kept_of result fs))
-            ≡ adds layout t (parts_at (chosen_places chosen.now) fs) }
+    /// Gives how much is kept of records that `layout` reads by these `columns`: all, or what decides
+    /// what they add.
+    pub(crate) fn of(layout: &Layout, columns: &Columns) -> Limits
+        ensures { (t : ℕ) (fs : Fields) →
+            adds layout.now t (parts_at layout.now columns.now (spec.kept_of result fs))
+            ≡ adds layout.now t (parts_at layout.now columns.now fs) }
     {
-        if !chosen.format.has_quotes() || !chosen.part.is_whole() {
+        if !layout.format.has_quotes() || !layout.part.is_whole() {
             return Limits::NONE;
         }
-        let fields = match &chosen.columns {
+        let fields = match columns.indices() {
             Some(columns) => fields_read(columns),
             None => Some(MOST_PAIR + 1),
         };
-        let most = MAX_KEY_LEN.max(MOST_WHOLE + decimals as usize);
-        Limits {
-            fields,
-            bytes: Some(most + 1),
-        }
+        let bytes = Some(least_long(layout.decimals));
+        Limits { fields, bytes }
     }
 }
 

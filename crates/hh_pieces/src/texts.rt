@@ -16,14 +16,14 @@ ghost use Rattle.hh_pieces.specs.Texts.{AllOpen, Chooses, LeavesBytes, Opens, Op
 ghost use Rattle.hh_pieces.specs.Texts.{parts_left, records_known};
 ghost use Rattle.hh_pieces.specs.Windows.{held_in};
 
-use crate::cuts::{ends_outside_quotes, records_alike};
+use crate::cuts::{begins_with_quotes, ends_outside_quotes, front_records};
 use crate::long_record::{Limits, LongRecord, Syntax};
-use crate::pieces::{Columns, read_piece};
+use crate::pieces::{has_quotes_apart, read_piece};
 use crate::window::Window;
 use csv::ByteRecord;
 use hh_faults::TextError;
 use hh_records::laws::plain_layouts_read_streams;
-use hh_records::{Layout, ReadRecords, Room, choose, take_row};
+use hh_records::{Columns, Layout, ReadRecords, Room, take_row};
 use hh_stream::{KeyHash, Stream, TakeItems};
 use std::alloc::{AllocError, Global};
 use std::io::Read;
@@ -123,11 +123,13 @@ pub(crate) struct Taken {
     pub(crate) outside: bool,
 }
 
-/// Hands on what the whole records at the front of `window` add, and counts all records, with the
-/// number of those `before`, and those that are `bad`.
+/// Hands on what whole records at the front of `window` add, and counts all records, with the number
+/// of those `before`, and those that are `bad`. Where `quotes_apart` they are those before the line
+/// of the first quote, and else all.
 fn take_whole<T: TakeItems>(
     alloc: Global,
     columns: &Columns,
+    quotes_apart: bool,
     window: &mut Window,
     before: u64,
     taker: &mut T,
@@ -148,21 +150,33 @@ fn take_whole<T: TakeItems>(
         (option_map (parts_in layout.now columns.now) (prepend_known (held_in window.old) rest))
         error) }
 {
-    let mut number = before;
-    while let Some(count) = records_alike(window.held(), layout.format, layout.delimiter) {
-        let records = &window.held()[..count];
-        number = read_piece(alloc, layout, columns, records, number, bad, taker)?;
-        window.remove(count);
+    let Some(count) = front_records(window.held(), quotes_apart, layout) else {
+        return Ok(before);
+    };
+    let records = &window.held()[..count];
+    let after = read_piece(alloc, layout, columns, records, before, bad, taker)?;
+    window.remove(count);
+    Ok(after)
+}
+
+/// Whether the next record of `window` is read byte by byte, too: where the text `is_long`, as long
+/// as the window holds [`LEAST_HELD`] bytes, and else if the next line has a quote.
+fn reads_on(is_long: bool, window: &Window) -> bool {
+    if is_long {
+        window.len() >= LEAST_HELD
+    } else {
+        begins_with_quotes(window.held())
     }
-    Ok(number)
 }
 
 /// Hands on what records at the front of `window` add, which `reader` has the rest of, byte by
-/// byte, until the window holds fewer than [`LEAST_HELD`] bytes or the text ends. It counts all
-/// records, with the number of those `before`, and those that are `bad`.
-fn take_long<R: Read, T: TakeItems>(
+/// byte. It takes one, and more as long as the next line has a quote or, of a text that `is_long`,
+/// the window holds [`LEAST_HELD`] bytes. It counts all records, with the number of those `before`,
+/// and those that are `bad`.
+fn take_records<R: Read, T: TakeItems>(
     alloc: Global,
     columns: &Columns,
+    is_long: bool,
     window: &mut Window,
     reader: &mut R,
     before: u64,
@@ -188,27 +202,38 @@ fn take_long<R: Read, T: TakeItems>(
 {
     let mut record = LongRecord::new(alloc);
     let mut room = Room::new(alloc);
-    let limits = columns.limits(layout.decimals);
+    let limits = Limits::of(layout, columns);
     let syntax = syntax_of(layout);
     let mut taken = Taken {
         number: before,
         outside: true,
     };
-    while taken.outside && taken.number < u64::MAX && window.len() >= LEAST_HELD {
+    let mut goes_on = true;
+    while taken.outside && goes_on && taken.number < u64::MAX {
         let found = record.read(syntax, limits, window, reader)?;
         taken.outside = record.is_outside();
         if !found {
             return Ok(taken);
         }
         taken.number += 1;
-        columns.take_row(taker, &mut room, &record.row, taken.number, bad, layout)?;
+        take_row(
+            taker,
+            &mut room,
+            &record.row,
+            columns,
+            taken.number,
+            bad,
+            layout,
+        )?;
+        goes_on = reads_on(is_long, window);
     }
     Ok(taken)
 }
 
-/// Hands on what records at the front of a window add, which `reader` has the rest of: those that
-/// are whole and, where the window holds [`MOST_HELD`] bytes even so, one that is longer. It counts
-/// all records, with the number of those `before`, and those that are `bad`.
+/// Hands on what records at the front of `window` add, which `reader` has the rest of: those that
+/// are whole, those with quotes byte by byte where the others are cut into lines and, where the
+/// window holds [`MOST_HELD`] bytes even so, one that is longer. It counts all records, with the
+/// number of those `before`, and those that are `bad`.
 fn take_held<R: Read, T: TakeItems>(
     alloc: Global,
     columns: &Columns,
@@ -235,15 +260,33 @@ fn take_held<R: Read, T: TakeItems>(
         (option_map (parts_in layout.now columns.now)
         (prepend_known (held_in window.old) (R.remaining reader.old))) error) }
 {
-    let number = take_whole(alloc, columns, window, before, taker, bad, layout)?;
-    if window.len() < MOST_HELD {
-        return Ok(Taken {
+    let quotes_apart = has_quotes_apart(layout, columns);
+    let mut taken = Taken {
+        number: before,
+        outside: true,
+    };
+    for _ in 0..u64::MAX {
+        let Taken { number, outside } = taken;
+        let number = take_whole(
+            alloc,
+            columns,
+            quotes_apart,
+            window,
             number,
-            outside: true,
-        });
+            taker,
+            bad,
+            layout,
+        )?;
+        let is_quoted = quotes_apart && begins_with_quotes(window.held());
+        let is_long = !is_quoted && window.len() >= MOST_HELD;
+        if !outside || !is_quoted && !is_long {
+            return Ok(Taken { number, outside });
+        }
+        taken = take_records(
+            alloc, columns, is_long, window, reader, number, taker, bad, layout,
+        )?;
     }
-    let taken = take_long(alloc, columns, window, reader, number, taker, bad, layout)?;
-    Ok(taken)
+    Err(TextError::ReadFault)
 }
 
 /// Hands on what each record adds of a text that `window` holds the start of, and `reader` has the

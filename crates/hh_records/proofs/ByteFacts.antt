@@ -13,7 +13,7 @@ use Rattle.csv.specs.declared.parser.State.{State}
 use Rattle.csv.specs.declared.parser.State.TheVariants as st
 use Rattle.hh_stream.specs.Weights.{AreItems, Entry, IsKey, max_key_len, max_total, total_of}
 use Rattle.hh_records.specs.Laws.{TextsAreItems}
-use Rattle.hh_records.specs.Streams.{Fields, item_of_fields, item_of_pair, item_of_parts, items_from, reading_next, weight_after, weight_of, weight_or_cause}
+use Rattle.hh_records.specs.Streams.{Fields, item_after, item_of_fields, item_of_pair, item_of_parts, items_from, parts_of, reading_next, weight_of, weight_or_cause}
 use Rattle.hh_faults.specs.declared.records.BadRecordCause.{BadRecordCause}
 
 -- ---- records of bytes
@@ -92,52 +92,52 @@ strip_bytes (a ∷ b ∷ c ∷ rest) bytes = by (is_bom a b c)
     by false = bytes
 
 -- ---- items of records
-abbrev Fits : ℕ → ℕ → Type 0
-Fits t w = (0 < w) × (t + w ≤ max_total)
-
-weight_fits : (t w v : ℕ) → weight_or_cause t w ≡ Ok v → Fits t v
-weight_fits t w v is = elim (eqb_tells w 0) [
+some_weight : (o : Option ℕ) (v : ℕ) → weight_or_cause o ≡ Ok v → 0 < v
+some_weight None v is = absurd (cc is)
+some_weight (Some w) v is = elim (eqb_tells w 0) [
   | inl (e, _) ↦ absurd (cc (rw e at is))
-  | inr (e, some) ↦ elim (leb_tells (t + w) max_total) [
-    | inl (f, le) ↦ let same : w ≡ v = cc (rw (e, f) at is) in subst (Fits t) same (omega (arith, some), le)
-    | inr (f, _) ↦ absurd (cc (rw (e, f) at is))
-  ]
+  | inr (e, some) ↦ let same : w ≡ v = cc (rw e at is) in omega (arith, some, same)
 ]
-
-after_fits : (t : ℕ) (o : Option ℕ) (v : ℕ) → weight_after t o ≡ Ok v → Fits t v
-after_fits t None v is = absurd (cc is)
-after_fits t (Some w) v is = weight_fits t w v is
 
 pair_is : (k : List ℕ) (r : Result ℕ BadRecordCause) (e : Entry) → item_of_pair k r ≡ Ok e → (k ≡ e.0) × (r ≡ Ok e.1)
 pair_is k (Ok w) e is = let same : ◌≡◌ {A = Entry} (k, w) e = cc is in (ap (λ p. p.0) same, ap (λ p. Ok p.1) same)
 pair_is k (Err c) e is = absurd (cc is)
 
--- an item that a record gives after a total of t
-abbrev IsItem : ℕ → Entry → Type 0
-IsItem t e = IsKey e.0 × Fits t e.1
+-- an item that a record gives
+abbrev IsItem : Entry → Type 0
+IsItem e = IsKey e.0 × (0 < e.1)
 
-parts_give : (t : ℕ) (k : List ℕ) (o : Option (List ℕ)) (e : Entry) → AreBytes k
-    → item_of_parts t (Some (k, o)) ≡ Ok e → IsItem t e
-parts_give t k o e bytes is = elim (eqb_tells (length k) 0) [
+parts_give : (k : List ℕ) (o : Option (List ℕ)) (e : Entry) → AreBytes k → item_of_parts (Some (k, o)) ≡ Ok e
+    → IsItem e
+parts_give k o e bytes is = elim (eqb_tells (length k) 0) [
   | inl (empty, _) ↦ absurd (cc (rw empty at is))
   | inr (empty, some) ↦ elim (leb_tells (length k) max_key_len) [
     | inl (short, few) ↦
-        let (key, weight) = pair_is k (weight_after t (weight_of o)) e (rw (empty, short) at is) in
+        let (key, weight) = pair_is k (weight_or_cause (weight_of o)) e (rw (empty, short) at is) in
         let lawful : IsKey k = record {
           some = omega (arith, some);
           few = few;
           bytes = λ i lt. All-get_or IsByte k i 0 lt bytes;
         } in
-        (subst IsKey key lawful, after_fits t (weight_of o) e.1 weight)
+        (subst IsKey key lawful, some_weight (weight_of o) e.1 weight)
     | inr (short, _) ↦ absurd (cc (rw (empty, short) at is))
   ]
 ]
 
-record_gives : (t : ℕ) (r : Fields) (e : Entry) → HaveBytes r → item_of_fields t r ≡ Ok e → IsItem t e
-record_gives t [] e bytes is = absurd (cc is)
-record_gives t (k ∷ []) e bytes is = parts_give t k None e (All-head AreBytes k [] bytes) is
-record_gives t (k ∷ f ∷ []) e bytes is = parts_give t k (Some f) e (All-head AreBytes k (f ∷ []) bytes) is
-record_gives t (k ∷ f ∷ g ∷ rest) e bytes is = absurd (cc is)
+record_gives : (r : Fields) (e : Entry) → HaveBytes r → item_of_parts (parts_of r) ≡ Ok e → IsItem e
+record_gives [] e bytes is = absurd (cc is)
+record_gives (k ∷ []) e bytes is = parts_give k None e (All-head AreBytes k [] bytes) is
+record_gives (k ∷ f ∷ []) e bytes is = parts_give k (Some f) e (All-head AreBytes k (f ∷ []) bytes) is
+record_gives (k ∷ f ∷ g ∷ rest) e bytes is = absurd (cc is)
+
+-- an item that is added after a total of t is one before it, and fits
+after_fits : (t : ℕ) (r : Result Entry BadRecordCause) (e : Entry) → item_after t r ≡ Ok e
+    → (r ≡ Ok e) × (t + e.1 ≤ max_total)
+after_fits t (Err c) e is = absurd (cc is)
+after_fits t (Ok d) e is = elim (leb_tells (t + d.1) max_total) [
+  | inl (f, le) ↦ let same : d ≡ e = cc (rw f at is) in (ap Ok same, rw (← same) le)
+  | inr (f, _) ↦ absurd (cc (rw f at is))
+]
 
 abbrev HasKey : Entry → Type 0
 HasKey e = IsKey e.0
@@ -145,10 +145,10 @@ HasKey e = IsKey e.0
 abbrev HasWeight : Entry → Type 0
 HasWeight e = 0 < e.1
 
-one_more : (xs : List Entry) (e : Entry) → AreItems xs → IsItem (total_of xs) e → AreItems (xs ++ e ∷ [])
-one_more xs e (keys, weights) (key, fits) = (
+one_more : (xs : List Entry) (e : Entry) → AreItems xs → IsItem e → AreItems (xs ++ e ∷ [])
+one_more xs e (keys, weights) (key, some) = (
   recursion_from_All HasKey (xs ++ e ∷ []) (All-push HasKey xs e (All-from_recursion HasKey xs keys) key),
-  All-push HasWeight xs e weights fits.0,
+  All-push HasWeight xs e weights some,
 )
 
 all_items : (n : ℕ) (xs ys : List Entry) (rs : List Fields) → All HaveBytes rs → AreItems xs → total_of xs ≤ max_total
@@ -166,9 +166,10 @@ all_items n xs ys (r ∷ rs) bytes items fits is =
         → AreItems ys × (total_of ys ≤ max_total)
     by (Err c) given is more = absurd (cc is)
     by (Ok e) given is more =
-        let item = record_gives (total_of xs) r e (All-head HaveBytes r rs bytes) given in
+        let (itself, within) = after_fits (total_of xs) (item_of_parts (parts_of r)) e given in
+        let item = record_gives r e (All-head HaveBytes r rs bytes) itself in
         let total = sum_by_push (λ (d : Entry). d.1) xs e in
-        more (xs ++ e ∷ []) (one_more xs e items item) (rw total item.1.1) is
+        more (xs ++ e ∷ []) (one_more xs e items item) (rw total within) is
 
 -- what a text of bytes reads as has keys and weights, of a total in range
 pub texts_are_items : TextsAreItems

@@ -1,9 +1,9 @@
 -- How a stream follows the records read so far.
 use Rattle.std.proofs.Common.{◌≡◌, ◌≤◌, ◌<◌, ◌+◌, ◌-◌, ◌∷◌, ◌++◌, ◌∙◌, ℕ, suc, zero, List, [], length, map, Bool, true, false, Option, Some, None, Result, Ok, Err, refl, sym, ap, arith, append_assoc}
-use Rattle.std.specs.Prelude.{⊤, IfSome, option_map, ◌==◌, if◌then◌else◌}
+use Rattle.std.specs.Prelude.{⊤, nat_le, IfSome, option_map, ◌==◌, if◌then◌else◌}
 use Rattle.std.proofs.lemmas.Bool.{false≢true}
 use Rattle.std.proofs.lemmas.List.{append-nil, length-map, map-append}
-use Rattle.std.proofs.lemmas.List.Sums.{sum_by-append}
+use Rattle.std.proofs.lemmas.List.Sums.{sum_by-append, sum_by-cons}
 use Rattle.std.proofs.Common.{length-append}
 use Rattle.csv.specs.Machine.{next_record, ends_at_end, is_end, step, after_end, in_field, start_field, start_record, Read, carriage_return}
 use Rattle.csv.specs.Reading.{Reached, ReadRecord, default_config, records, records_from, records_next, source_of, strip_bom}
@@ -16,18 +16,18 @@ use Rattle.csv.specs.declared.parser.Action.{Action}
 use Rattle.csv.specs.declared.parser.Action.TheVariants as act
 use Rattle.csv.specs.declared.reader.Reader.{Reader}
 use Rattle.csv.proofs.ReadFacts.{rows-end, rows-more}
-use Rattle.hh_stream.specs.Weights.{Entry, total_of}
+use Rattle.hh_stream.specs.Weights.{Entry, max_total, total_of}
 use Rattle.hh_records.proofs.DecimalFacts.{units-whole}
 use Rattle.hh_faults.specs.declared.records.BadRecordCause.{BadRecordCause}
 use Rattle.hh_faults.specs.declared.records.BadRecordCause.TheVariants as cause
 use Rattle.hh_faults.specs.declared.records.TextError.{TextError}
 use Rattle.hh_faults.specs.declared.records.TextError.TheVariants as text
-use Rattle.hh_records.specs.Layouts.{IsPlain, RecordRefused, RowsRefused, added, adding_next, adds, adds_instead, adds_itself, between, by_columns, columns_among, config_of, configured, counted_as, field_names, gathered, headed_parts, items_after, joined, member_names, parts_at, parts_by, places_in, text_parts, texts_parts}
+use Rattle.hh_records.specs.Layouts.{IsPlain, RecordRefused, RowsRefused, added, added_after, adding_next, adds, adds_instead, adds_itself, between, config_of, configured, counted_as, gathered, headed_parts, items_after, joined, member_names, parts_at, parts_by, columns_in, text_parts, texts_parts}
 use Rattle.hh_records.specs.declared.layout.Layout.{Layout}
 use Rattle.hh_records.proofs.FormatFacts.{whole-parts}
 use Rattle.hh_records.specs.Formats.{byte_between, fields_by, has_quotes, part_said}
 use Rattle.hh_records.specs.Laws.{PlainLayoutsReadStreams}
-use Rattle.hh_records.specs.Streams.{Fields, Parts, Reading, item_of_parts, items_from, parts_of, reading_next}
+use Rattle.hh_records.specs.Streams.{Fields, Parts, Reading, item_after, item_of_parts, items_from, parts_of, reading_next}
 
 -- a state where the text may end with no record
 Quiet : State × Action → Type 0
@@ -329,19 +329,31 @@ unadded cause.TotalTooLarge = refl
 -- a layout of whole numbers but 0
 module _ (layout : Layout) (no_zero : layout.allow_zero ≡ false) (whole : layout.decimals ≡ 0)
     (no_bad : layout.bad_as ≡ None) where
-  plain-itself : (t : ℕ) (p : Parts) → adds_itself layout t p ≡ added false (item_of_parts t p)
-  plain-itself t None = refl
-  plain-itself t (Some (k, None)) = rw (no_zero, whole) refl
-  plain-itself t (Some (k, Some f)) = rw (no_zero, whole, units-whole f) refl
+  plain-itself : (p : Parts) → adds_itself layout p ≡ added false (item_of_parts p)
+  plain-itself None = refl
+  plain-itself (Some (k, None)) = rw (no_zero, whole) refl
+  plain-itself (Some (k, Some f)) = rw (no_zero, whole, units-whole f) refl
 
   -- where bad records count as no key
-  as-they-are : (t : ℕ) (r : Result (List Entry) BadRecordCause) → counted_as layout t r ≡ r
-  as-they-are t (Ok es) = refl
-  as-they-are t (Err c) =
-      ap (λ bad. adds_instead layout t (option_map (λ bad. bad.key.items) bad) c) no_bad
+  as-they-are : (r : Result (List Entry) BadRecordCause) → counted_as layout r ≡ r
+  as-they-are (Ok es) = refl
+  as-they-are (Err c) = ap (λ bad. adds_instead layout (option_map (λ bad. bad.key.items) bad) c) no_bad
 
-  plain-adds : (t : ℕ) (p : Parts) → adds layout t p ≡ added false (item_of_parts t p)
-  plain-adds t p = as-they-are t (adds_itself layout t p) ∙ plain-itself t p
+  -- an item alone is added where it fits
+  one-after : (t : ℕ) (r : Result Entry BadRecordCause) → added_after t (added false r) ≡ added false (item_after t r)
+  one-after t (Ok e) =
+      let sum = sum_by-cons (λ (e : Entry). e.1) e [] in
+      let alone : t + total_of (e ∷ []) ≡ t + e.1 = omega (arith, sum) in
+      ap (λ n. if nat_le n max_total then Ok (e ∷ []) else Err cause.TotalTooLarge) alone ∙ by (nat_le (t + e.1) max_total)
+    where
+      by : (b : Bool) → (if b then Ok (e ∷ []) else Err cause.TotalTooLarge) ≡ added false (if b then Ok e else Err cause.TotalTooLarge)
+      by true = refl
+      by false = refl
+  one-after t (Err c) = rw (unadded c) refl
+
+  plain-adds : (t : ℕ) (p : Parts) → adds layout t p ≡ added false (item_after t (item_of_parts p))
+  plain-adds t p =
+      ap (added_after t) (as-they-are (adds_itself layout p) ∙ plain-itself p) ∙ one-after t (item_of_parts p)
 
   -- what records add are their items
   same-items : (n : ℕ) (xs : List Entry) (rows : List Fields)
@@ -350,7 +362,7 @@ module _ (layout : Layout) (no_zero : layout.allow_zero ≡ false) (whole : layo
   same-items n xs [] = ap Ok (append-nil xs)
   same-items n xs (r ∷ rows) =
       rw (plain-adds (total_of xs) (parts_of r))
-      (by (item_of_parts (total_of xs) (parts_of r)) (λ e. same-items (n + 1) (xs ++ e ∷ []) rows))
+      (by (item_after (total_of xs) (item_of_parts (parts_of r))) (λ e. same-items (n + 1) (xs ++ e ∷ []) rows))
     where
       by : (o : Result Entry BadRecordCause)
           → ((e : Entry) → joined (xs ++ e ∷ []) (items_after layout (n + 1) (total_of (xs ++ e ∷ [])) (map parts_of rows))
@@ -368,26 +380,24 @@ module _ (layout : Layout) (plain : IsPlain layout) where
   plain-config =
       ap (λ f. configured (has_quotes f) (byte_between f layout.delimiter)) plain.csv ∙ ap (configured true) plain.delimiter
 
-  plain-places : places_in layout [] ≡ Some (by_columns layout None)
-  plain-places =
-      let none : columns_among layout (field_names layout []) ≡ Some None = rw (plain.no_key, plain.no_weight) refl in
-      ap (option_map (by_columns layout)) none
+  plain-columns : columns_in layout [] ≡ Some None
+  plain-columns = rw (plain.no_key, plain.no_weight) refl
 
-  plain-rows : (rows : List Fields) → map (parts_at (by_columns layout None)) rows ≡ map parts_of rows
+  plain-rows : (rows : List Fields) → map (parts_at layout None) rows ≡ map parts_of rows
   plain-rows [] = refl
   plain-rows (r ∷ rows) =
-      let one : parts_at (by_columns layout None) r ≡ parts_of r =
+      let one : parts_at layout None r ≡ parts_of r =
       ap (λ f. parts_by None (part_said layout.part) (fields_by f (member_names layout) r)) plain.csv
       ∙ whole-parts (part_said layout.part) r plain.whole_field in
-      ap (λ (p : Parts). p ∷ map (parts_at (by_columns layout None)) rows) one
+      ap (λ (p : Parts). p ∷ map (parts_at layout None) rows) one
       ∙ ap (λ (ps : List Parts). parts_of r ∷ ps) (plain-rows rows)
 
   plain-text : (text : List ℕ) → text_parts layout text ≡ Some (map parts_of (records default_config (strip_bom text)))
   plain-text text =
       let rows = records (config_of layout) (strip_bom text) in
-      ap (λ b. if b then headed_parts layout rows else option_map (λ at. map (parts_at at) rows) (places_in layout []))
+      ap (λ b. if b then headed_parts layout rows else option_map (λ at. map (parts_at layout at) rows) (columns_in layout []))
       plain.no_header
-      ∙ ap (option_map (λ at. map (parts_at at) rows)) plain-places
+      ∙ ap (option_map (λ at. map (parts_at layout at) rows)) plain-columns
       ∙ ap Some (plain-rows rows)
       ∙ ap (λ cfg. Some (map parts_of (records cfg (strip_bom text)))) plain-config
 

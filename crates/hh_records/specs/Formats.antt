@@ -8,7 +8,6 @@ use Rattle.hh_records.specs.Streams.{Fields}
 use Rattle.hh_records.specs.declared.format.Format.{Format}
 use Rattle.hh_records.specs.declared.format.Format.TheVariants as format
 use Rattle.hh_records.specs.declared.format.KeyPart.{KeyPart}
-use Rattle.hh_records.specs.declared.format.MemberNames.{MemberNames}
 
 -- whether fields may be quoted
 abbrev pub has_quotes : Format → Bool
@@ -46,10 +45,6 @@ line_of r = bytes.joined (0 ∷ []) r
 -- the names of the members of an object that are fields: those of the key, and that of the weight
 abbrev pub Names : Type 0
 Names = List (List ℕ) × Option (List ℕ)
-
--- the names that these are in a program
-abbrev pub names_said : MemberNames → Names
-names_said names = (map (λ name. name.items) names.key.items, option_map (λ name. name.items) names.weight)
 
 -- the fields of a record that csv reads as these: all but the empty ones, where several delimiters are
 -- one; the line as one field, where a record is a line; and the members of an object that are named

@@ -1,5 +1,5 @@
 -- Records whose key and weight stand in columns of one's own.
-use Rattle.std.specs.Prelude.{◌≡◌, ◌==◌, ◌&&◌, ◌||◌, ◌+◌, ◌-◌, ◌^◌, ◌<◌, ℕ, Bool, true, false, List, [], ◌∷◌, ◌++◌, length, map, min, not, Option, Some, None, IfSome, option_map, option_and_then, Result, Ok, Err, ⊤, if◌then◌else◌}
+use Rattle.std.specs.Prelude.{◌≡◌, ◌==◌, ◌&&◌, ◌||◌, ◌+◌, ◌-◌, ◌^◌, ◌<◌, nat_le, ℕ, Bool, true, false, List, [], ◌∷◌, ◌++◌, length, map, min, not, Option, Some, None, IfSome, option_map, option_and_then, Result, Ok, Err, ⊤, if◌then◌else◌}
 use Rattle.std.specs.List.{flat_map, position_from}
 use Rattle.std.specs.Option.{option_to_list, option_zip}
 use Rattle.std.specs.Str.{bytes_eq}
@@ -12,9 +12,9 @@ use Rattle.csv.specs.declared.parser.State.{State}
 use Rattle.csv.specs.declared.reader.Reader.{Reader}
 use Rattle.csv.specs.declared.reader.Trim.TheVariants as trim
 use Rattle.hh_stream.specs.Digits.{is_number, value_of}
-use Rattle.hh_stream.specs.Weights.{Bytes, Entry, total_of}
+use Rattle.hh_stream.specs.Weights.{Bytes, Entry, max_total, total_of}
 use Rattle.hh_records.specs.Decimals.{units_of}
-use Rattle.hh_records.specs.Formats.{Names, Part, byte_between, fields_by, has_quotes, is_json, is_whole_field, names_said, part_of, part_said, with_part}
+use Rattle.hh_records.specs.Formats.{Names, Part, byte_between, fields_by, has_quotes, is_json, is_whole_field, part_of, part_said, with_part}
 use Rattle.hh_records.specs.Streams.{Fields, Known, Parts, Reading, ReadsAs, item_of_key, parts_of}
 use Rattle.hh_records.specs.declared.format.Format.{Format}
 use Rattle.hh_records.specs.declared.format.Format.TheVariants as format
@@ -22,7 +22,6 @@ use Rattle.hh_records.specs.declared.layout.ColumnIndices.{ColumnIndices}
 use Rattle.hh_records.specs.declared.layout.Column.{Column}
 use Rattle.hh_records.specs.declared.layout.Column.TheVariants as column
 use Rattle.hh_records.specs.declared.layout.Layout.{Layout}
-use Rattle.hh_records.specs.declared.layout.ChosenLayout.{ChosenLayout}
 use Rattle.hh_faults.specs.declared.records.BadRecordCause.{BadRecordCause}
 use Rattle.hh_faults.specs.declared.records.BadRecordCause.TheVariants as cause
 use Rattle.hh_faults.specs.declared.records.TextError.{TextError}
@@ -33,24 +32,8 @@ use Rattle.hh_faults.specs.declared.records.TextError.TheVariants as text
 abbrev pub Columns : Type 0
 Columns = Option (List ℕ × Option ℕ)
 
--- how a record is read: its format, the members that are its fields, the places of its columns, and
--- which part of the key's last field is the key
-pub record Places : Type 0 where
-  pub format : Format
-  pub names : Names
-  pub columns : Columns
-  pub part : Part
-
 abbrev pub chosen_columns : Option ColumnIndices → Columns
 chosen_columns columns = option_map (λ c. (c.key.items, c.weight)) columns
-
-abbrev pub chosen_places : ChosenLayout → Places
-chosen_places chosen = record {
-  format = chosen.format;
-  names = names_said chosen.names;
-  columns = chosen_columns chosen.columns;
-  part = part_said chosen.part;
-}
 
 -- what f gives of each, where it gives something of all
 unfoldable pub every : {A B : Type 0} → (A → Option B) → List A → Option (List B)
@@ -78,9 +61,25 @@ parts_by None part r = option_map (λ p. (part_of part p.0, p.1)) (parts_of r)
 parts_by (Some at) part r =
     option_zip (option_map (λ fs. key_of (with_part part fs)) (fields_at r at.0)) (weight_at r at.1)
 
--- a record's key and weight's field, by their places
-abbrev pub parts_at : Places → Fields → Parts
-parts_at at r = parts_by at.columns at.part (fields_by at.format at.names r)
+-- the name of a member that a column is
+abbrev pub name_of : Column → List (List ℕ)
+name_of (column.Number n) = []
+name_of (column.Name name) = name.items ∷ []
+
+-- the name of the member that the weight is
+abbrev pub weight_name : Option Column → Option (List ℕ)
+weight_name None = None
+weight_name (Some (column.Number n)) = None
+weight_name (Some (column.Name name)) = Some name.items
+
+-- the members that the columns of a layout name
+abbrev pub member_names : Layout → Names
+member_names layout = (flat_map name_of layout.key.items, weight_name layout.weight)
+
+-- the key and the weight's field of a record that csv reads as these fields, by a layout and the places of
+-- its columns
+abbrev pub parts_at : Layout → Columns → Fields → Parts
+parts_at layout at r = parts_by at (part_said layout.part) (fields_by layout.format (member_names layout) r)
 
 -- a hyphen alone, as logs write it for no bytes
 abbrev pub is_hyphen : List ℕ → Bool
@@ -103,14 +102,14 @@ added allow (Err c) = Err c
 abbrev pub weight_by : Layout → Option (List ℕ) → Option ℕ
 weight_by layout f = units_of layout.decimals (weight_read layout.allow_zero f)
 
--- the item of a record after a total of t, or the first test that it fails
-abbrev pub item_by : Layout → ℕ → Parts → Result Entry BadRecordCause
-item_by layout t None = Err cause.FieldCount
-item_by layout t (Some p) = item_of_key t p.0 (weight_by layout p.1)
+-- the item of a record, or the first test that it fails
+abbrev pub item_by : Layout → Parts → Result Entry BadRecordCause
+item_by layout None = Err cause.FieldCount
+item_by layout (Some p) = item_of_key p.0 (weight_by layout p.1)
 
--- what a record adds by its own key and weight after a total of t, or the first test that it fails
-abbrev pub adds_itself : Layout → ℕ → Parts → Result (List Entry) BadRecordCause
-adds_itself layout t p = added layout.allow_zero (item_by layout t p)
+-- what a record adds by its own key and weight, or the first test that it fails
+abbrev pub adds_itself : Layout → Parts → Result (List Entry) BadRecordCause
+adds_itself layout p = added layout.allow_zero (item_by layout p)
 
 -- the items of a key of this weight: none where it weighs 0
 abbrev pub items_of_weight : Bytes → ℕ → List Entry
@@ -120,22 +119,30 @@ items_of_weight key w = if w == 0 then [] else (key, w) ∷ []
 abbrev pub bad_key : Layout → Option Bytes
 bad_key layout = option_map (λ bad. bad.key.items) layout.bad_as
 
--- what a record adds after a total of t that fails a test: it counts as a record of this key and no
--- weight's field, so of weight 1, but where the total would be too large, which depends on the records
--- before it
-abbrev pub adds_instead : Layout → ℕ → Option Bytes → BadRecordCause → Result (List Entry) BadRecordCause
-adds_instead layout t None c = Err c
-adds_instead layout t (Some key) cause.TotalTooLarge = Err cause.TotalTooLarge
-adds_instead layout t (Some key) c = adds_itself layout t (Some (key, None))
+-- what a record adds that fails a test: it counts as a record of this key and no weight's field, so of
+-- weight 1
+abbrev pub adds_instead : Layout → Option Bytes → BadRecordCause → Result (List Entry) BadRecordCause
+adds_instead layout None c = Err c
+adds_instead layout (Some key) c = adds_itself layout (Some (key, None))
 
--- what a record adds after a total of t, where this is what it adds itself
-abbrev pub counted_as : Layout → ℕ → Result (List Entry) BadRecordCause → Result (List Entry) BadRecordCause
-counted_as layout t (Ok es) = Ok es
-counted_as layout t (Err c) = adds_instead layout t (bad_key layout) c
+-- what a record adds, where this is what it adds itself
+abbrev pub counted_as : Layout → Result (List Entry) BadRecordCause → Result (List Entry) BadRecordCause
+counted_as layout (Ok es) = Ok es
+counted_as layout (Err c) = adds_instead layout (bad_key layout) c
 
--- what a record adds after a total of t, or the first test that it fails
+-- what a record adds whatever stands before it, or the first test that it fails
+abbrev pub adds_alone : Layout → Parts → Result (List Entry) BadRecordCause
+adds_alone layout p = counted_as layout (adds_itself layout p)
+
+-- what is added after a total of t, unless the total is too large with it
+abbrev pub added_after : ℕ → Result (List Entry) BadRecordCause → Result (List Entry) BadRecordCause
+added_after t (Ok es) = if nat_le (t + total_of es) max_total then Ok es else Err cause.TotalTooLarge
+added_after t (Err c) = Err c
+
+-- what a record adds after a total of t, or the first test that it fails: that the total is too large
+-- is the last, and such a record is refused though bad ones count as a key
 abbrev pub adds : Layout → ℕ → Parts → Result (List Entry) BadRecordCause
-adds layout t p = counted_as layout t (adds_itself layout t p)
+adds layout t p = added_after t (adds_alone layout p)
 
 abbrev pub joined : List Entry → Reading → Reading
 joined es (Ok xs) = Ok (es ++ xs)
@@ -224,40 +231,15 @@ columns_among layout header =
     (option_zip (key_places header layout.key.items) (weight_place header layout.weight))
     else Some None
 
--- the name of a member that a column is
-abbrev pub name_of : Column → List (List ℕ)
-name_of (column.Number n) = []
-name_of (column.Name name) = name.items ∷ []
-
--- the name of the member that the weight is
-abbrev pub weight_name : Option Column → Option (List ℕ)
-weight_name None = None
-weight_name (Some (column.Number n)) = None
-weight_name (Some (column.Name name)) = Some name.items
-
--- the members that the columns of a layout name
-abbrev pub member_names : Layout → Names
-member_names layout = (flat_map name_of layout.key.items, weight_name layout.weight)
-
 -- the names of a record's fields, by the header of its text or, of an object, those of its members
 abbrev pub field_names : Layout → Fields → Fields
 field_names layout header =
     if is_json layout.format then (member_names layout).0 ++ option_to_list (member_names layout).1
     else fields_by layout.format (member_names layout) header
 
--- how a record is read by a layout and these columns
-abbrev pub by_columns : Layout → Columns → Places
-by_columns layout columns = record {
-  format = layout.format;
-  names = member_names layout;
-  columns = columns;
-  part = part_said layout.part;
-}
-
--- how the records of a text are read by a layout, or nothing where this header lacks a column
-abbrev pub places_in : Layout → Fields → Option Places
-places_in layout header =
-    option_map (by_columns layout) (columns_among layout (field_names layout header))
+-- the columns of a layout in a text with this header, or nothing where the header lacks one
+abbrev pub columns_in : Layout → Fields → Option Columns
+columns_in layout header = columns_among layout (field_names layout header)
 
 -- a layout of a key and, after a comma, its weight, a whole number but 0, with no header
 pub record IsPlain (layout : Layout) : Type 0 where
@@ -281,13 +263,13 @@ ColumnsRefused layout found _ = ⊥
 -- records
 abbrev pub headed_parts : Layout → List Fields → Option (List Parts)
 headed_parts layout [] = Some []
-headed_parts layout (h ∷ rows) = option_map (λ at. map (parts_at at) rows) (places_in layout h)
+headed_parts layout (h ∷ rows) = option_map (λ at. map (parts_at layout at) rows) (columns_in layout h)
 
 abbrev pub text_parts : Layout → List ℕ → Option (List Parts)
 text_parts layout text =
     let rows = records (config_of layout) (strip_bom text) in
     if layout.has_header then headed_parts layout rows
-    else option_map (λ at. map (parts_at at) rows) (places_in layout [])
+    else option_map (λ at. map (parts_at layout at) rows) (columns_in layout [])
 
 -- what f gives of each, one after the other, where it gives something of all
 unfoldable pub gathered : {A B : Type 0} → (A → Option (List B)) → List A → Option (List B)
@@ -319,9 +301,9 @@ pub record IsReady {R : Type 0} (rows : Reader R) : Type 0 where
   pub flexible : is_flexible rows ≡ true
 
 -- the records that a reader has left, each as its key and its weight's field, where its bytes are known
-abbrev pub rows_left : {R : Type 0} → (R → Option (List ℕ)) → Places → Reader R → Option (List Parts)
-rows_left remaining at rows =
-    option_map (λ bytes. map (parts_at at)
+abbrev pub rows_left : {R : Type 0} → (R → Option (List ℕ)) → Layout → Columns → Reader R → Option (List Parts)
+rows_left remaining layout at rows =
+    option_map (λ bytes. map (parts_at layout at)
     (records_from (reader_config rows) (length bytes + 1) (reader_state rows) bytes))
     (between (reader_state rows) (source_of remaining rows))
 
@@ -365,11 +347,11 @@ first_of (x ∷ xs) = Some x
 abbrev pub header_of : Layout → List Fields → Option Fields
 header_of layout rows = if layout.has_header then first_of rows else Some []
 
-abbrev pub columns_of : Layout → List Fields → Option Places
-columns_of layout rows = option_and_then (places_in layout) (header_of layout rows)
+abbrev pub columns_of : Layout → List Fields → Option Columns
+columns_of layout rows = option_and_then (columns_in layout) (header_of layout rows)
 
 -- these are a layout's columns in a text of these records, or the text has no record for a header
-abbrev pub FindsColumns : Layout → List Fields → Option Places → Type 0
+abbrev pub FindsColumns : Layout → List Fields → Option Columns → Type 0
 FindsColumns layout rows None = header_of layout rows ≡ None
 FindsColumns layout rows (Some at) = columns_of layout rows ≡ Some at
 

@@ -18,21 +18,15 @@ Fields = List (List ℕ)
 abbrev pub is_weight : List ℕ → Bool
 is_weight f = is_number 20 f
 
--- a weight after a total of t, or why it can't be added
-abbrev pub weight_or_cause : ℕ → ℕ → Result ℕ BadRecordCause
-weight_or_cause t w =
-    if w == 0 then Err cause.ZeroWeight
-    else if nat_le (t + w) max_total then Ok w
-    else Err cause.TotalTooLarge
+-- a weight, or why it is none
+abbrev pub weight_or_cause : Option ℕ → Result ℕ BadRecordCause
+weight_or_cause None = Err cause.BadWeight
+weight_or_cause (Some w) = if w == 0 then Err cause.ZeroWeight else Ok w
 
 -- the weight that a field writes, and 1 where there is none
 abbrev pub weight_of : Option (List ℕ) → Option ℕ
 weight_of None = Some 1
 weight_of (Some f) = if is_weight f then Some (value_of f) else None
-
-abbrev pub weight_after : ℕ → Option ℕ → Result ℕ BadRecordCause
-weight_after t None = Err cause.BadWeight
-weight_after t (Some w) = weight_or_cause t w
 
 -- the key and the weight's field of a record, or nothing where it hasn't the fields for them
 abbrev pub Parts : Type 0
@@ -49,20 +43,25 @@ abbrev pub item_of_pair : Bytes → Result ℕ BadRecordCause → Result Entry B
 item_of_pair k (Ok w) = Ok (k, w)
 item_of_pair k (Err c) = Err c
 
--- a key of this weight after a total of t, or the first test that it fails
-abbrev pub item_of_key : ℕ → Bytes → Option ℕ → Result Entry BadRecordCause
-item_of_key t k w =
+-- a key of this weight, or the first test that it fails
+abbrev pub item_of_key : Bytes → Option ℕ → Result Entry BadRecordCause
+item_of_key k w =
     if length k == 0 then Err cause.EmptyKey
-    else if nat_le (length k) max_key_len then item_of_pair k (weight_after t w)
+    else if nat_le (length k) max_key_len then item_of_pair k (weight_or_cause w)
     else Err cause.KeyTooLong
 
-abbrev pub item_of_parts : ℕ → Parts → Result Entry BadRecordCause
-item_of_parts t None = Err cause.FieldCount
-item_of_parts t (Some p) = item_of_key t p.0 (weight_of p.1)
+abbrev pub item_of_parts : Parts → Result Entry BadRecordCause
+item_of_parts None = Err cause.FieldCount
+item_of_parts (Some p) = item_of_key p.0 (weight_of p.1)
+
+-- an item after a total of t, unless the total is too large with it
+abbrev pub item_after : ℕ → Result Entry BadRecordCause → Result Entry BadRecordCause
+item_after t (Ok e) = if nat_le (t + e.1) max_total then Ok e else Err cause.TotalTooLarge
+item_after t (Err c) = Err c
 
 -- the item of a record after a total of t, or the first test that it fails
 abbrev pub item_of_fields : ℕ → Fields → Result Entry BadRecordCause
-item_of_fields t r = item_of_parts t (parts_of r)
+item_of_fields t r = item_after t (item_of_parts (parts_of r))
 
 -- a stream, or the number and the cause of the first record that fails
 abbrev pub Reading : Type 0

@@ -2,13 +2,14 @@
 
 ghost use Rattle.std.specs.Prelude.{option_map, ◌≡◌, ◌∷◌, ◌++◌, [], map, not, take, true, IfOk, OnOk, if◌then◌else◌};
 ghost use Rattle.std.specs.List.{filter, position_or_len};
-ghost use Rattle.std.specs.Option.{option_to_list};
 ghost use Rattle.bstr.specs.Bytes.{is_in};
 ghost use Rattle.csv.specs.Records.{fields_of, partial_of};
 ghost use Rattle.hh_records.specs.Formats.{byte_between, fields_by, has_quotes, is_empty, is_json, is_whole_field};
-ghost use Rattle.hh_records.specs.Formats.{line_of, names_said, part_of, part_said};
+ghost use Rattle.hh_records.specs.Formats.{line_of, part_of, part_said};
+ghost use Rattle.hh_records.specs.Layouts.{member_names};
 ghost use Rattle.hh_records.specs.declared.format.Format.TheVariants.{Json};
 
+use crate::layout::Layout;
 use bstr::{ByteSlice, join};
 use csv::ByteRecord;
 use hh_json::members;
@@ -63,80 +64,6 @@ impl Format {
     }
 }
 
-/// The names of the members of a JSON object that are the fields of a record.
-#[derive(Drop)]
-pub struct MemberNames {
-    /// The key's, in their order.
-    pub key: Vec<Vec<u8>>,
-    /// The weight's.
-    pub weight: Option<Vec<u8>>,
-}
-
-/// Copies `words`.
-fn copy_all(alloc: Global, words: &[Vec<u8>]) -> Result<Vec<Vec<u8>>, AllocError>
-    ensures { IfOk result (λ copies. map (λ word. word.items) copies.items
-        ≡ map (λ word. word.items) words.now) }
-{
-    let mut copies = Vec::new(alloc);
-    for word in words {
-        copies.push(Vec::from_slice(alloc, word.as_slice())?)?;
-    }
-    Ok(copies)
-}
-
-/// Puts `words` after `fields`.
-fn push_all(fields: &mut ByteRecord, words: &[Vec<u8>]) -> Result<(), AllocError>
-    requires whole { partial_of fields.old ≡ [] }
-    ensures fields { OnOk result (fields_of fields.new
-        ≡ fields_of fields.old ++ map (λ word. word.items) words.now) }
-    ensures whole { OnOk result (partial_of fields.new ≡ []) }
-{
-    for word in words {
-        fields.push_field(word.as_slice())?;
-    }
-    Ok(())
-}
-
-impl MemberNames {
-    /// Copies the names.
-    pub fn copy(&self, alloc: Global) -> Result<MemberNames, AllocError>
-        ensures { IfOk result (λ copy. names_said copy ≡ names_said self.now) }
-    {
-        let weight = match &self.weight {
-            Some(name) => Some(Vec::from_slice(alloc, name.as_slice())?),
-            None => None,
-        };
-        Ok(MemberNames {
-            key: copy_all(alloc, self.key.as_slice())?,
-            weight,
-        })
-    }
-
-    /// Gives the weight's name.
-    fn weight_name(&self) -> Option<&[u8]>
-        ensures { option_map (λ name. name.now) result ≡ (names_said self.now).1 }
-    {
-        match &self.weight {
-            Some(name) => Some(name.as_slice()),
-            None => None,
-        }
-    }
-
-    /// Gives a record of the names, that of the weight after those of the key.
-    pub(crate) fn to_row(&self, alloc: Global) -> Result<ByteRecord, AllocError>
-        ensures { IfOk result (λ row. fields_of row
-            ≡ (names_said self.now).0 ++ option_to_list (names_said self.now).1) }
-    {
-        let mut row = ByteRecord::new(alloc);
-        push_all(&mut row, self.key.as_slice())?;
-        let Some(name) = self.weight_name() else {
-            return Ok(row);
-        };
-        row.push_field(name)?;
-        Ok(row)
-    }
-}
-
 /// Room for the fields of a record, which serves one record after the other.
 #[derive(Drop)]
 pub(crate) struct Spare {
@@ -178,16 +105,6 @@ impl KeyPart {
         ensures { result ≡ is_whole_field (part_said self.now) }
     {
         self.until.is_empty() && self.prefix.is_none()
-    }
-
-    /// Copies the part.
-    pub fn copy(&self, alloc: Global) -> Result<KeyPart, AllocError>
-        ensures { IfOk result (λ copy. part_said copy ≡ part_said self.now) }
-    {
-        Ok(KeyPart {
-            until: Vec::from_slice(alloc, self.until.as_slice())?,
-            prefix: self.prefix,
-        })
     }
 
     /// Gives this part of `field`.
@@ -262,49 +179,41 @@ fn rejoin(alloc: Global, row: &ByteRecord, fields: &mut ByteRecord) -> Result<()
     fields.push_field(line_of(alloc, row)?.as_slice())
 }
 
-/// Puts the members that `names` name of the object that is `row` into `spare`.
+/// Puts the members that the columns of `layout` name of the object that is `row` into `spare`.
 fn read_members(
     alloc: Global,
-    names: &MemberNames,
+    layout: &Layout,
     row: &ByteRecord,
     spare: &mut Spare,
 ) -> Result<(), AllocError>
     ensures { OnOk result (fields_of spare.new.fields
-        ≡ fields_by Json (names_said names.now) (fields_of row.now)) }
+        ≡ fields_by Json (member_names layout.now) (fields_of row.now)) }
 {
     let Spare { fields, scratch } = spare;
-    let weight = names.weight_name();
+    let names = layout.key.as_slice();
+    let weight = layout.weight_name();
     match row.get(0) {
-        Some(line) if row.len() == 1 => {
-            members(alloc, line, names.key.as_slice(), weight, scratch, fields)
-        }
+        Some(line) if row.len() == 1 => members(alloc, line, names, weight, scratch, fields),
         _ => {
             let line = line_of(alloc, row)?;
-            members(
-                alloc,
-                line.as_slice(),
-                names.key.as_slice(),
-                weight,
-                scratch,
-                fields,
-            )
+            members(alloc, line.as_slice(), names, weight, scratch, fields)
         }
     }
 }
 
-/// Gives the fields of a record that `csv` reads as `row`. They are put into `spare` where they are
-/// others than those of `row`.
+/// Gives the fields of a record of `layout` that `csv` reads as `row`. They are put into `spare`
+/// where they are others than those of `row`.
 pub(crate) fn fields_by<'r>(
     alloc: Global,
-    format: Format,
-    names: &MemberNames,
+    layout: &Layout,
     row: &'r ByteRecord,
     spare: &'r mut Spare,
 ) -> Result<&'r ByteRecord, AllocError>
     ensures { IfOk result (λ fields.
-        fields_of fields.now ≡ fields_by format (names_said names.now) (fields_of row.now)) }
+        fields_of fields.now
+        ≡ fields_by layout.now.format (member_names layout.now) (fields_of row.now)) }
 {
-    match format {
+    match layout.format {
         Format::Csv | Format::Unquoted => Ok(row),
         Format::Squeezed => {
             squeeze(row, &mut spare.fields)?;
@@ -318,7 +227,7 @@ pub(crate) fn fields_by<'r>(
             Ok(&spare.fields)
         }
         Format::Json => {
-            read_members(alloc, names, row, spare)?;
+            read_members(alloc, layout, row, spare)?;
             Ok(&spare.fields)
         }
     }

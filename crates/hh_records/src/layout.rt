@@ -1,19 +1,20 @@
 //! Where the key and the weight of a record stand.
 
-ghost use Rattle.std.specs.Prelude.{◌≡◌, map, option_map, Some, None, Ok, Err, IfOk, IfErr, IfSome};
+ghost use Rattle.std.specs.Prelude.{◌≡◌, ◌++◌, option_map, Some, None, Ok, Err, IfOk, IfErr, IfSome};
 ghost use Rattle.csv.specs.Records.{fields_of};
-ghost use Rattle.hh_records.specs.Layouts.{ColumnsRefused, IsPlain, NamesColumn, chosen_columns, chosen_places, columns_among};
-ghost use Rattle.hh_records.specs.Layouts.{delimiter_of, field_names, key_places, member_names, name_of, named_from};
-ghost use Rattle.hh_records.specs.Layouts.{place_of, places_in, places_of};
-ghost use Rattle.hh_records.specs.Formats.{names_said};
-ghost use Rattle.std.specs.List.{flat_map};
+ghost use Rattle.hh_records.specs.Layouts.{ColumnsRefused, IsPlain, NamesColumn, chosen_columns, columns_among, columns_in};
+ghost use Rattle.hh_records.specs.Layouts.{delimiter_of, key_places, member_names, name_of, named_from};
+ghost use Rattle.hh_records.specs.Layouts.{place_of, places_of, weight_name};
+ghost use Rattle.std.specs.Option.{option_to_list};
 
-use crate::format::{Format, KeyPart, MemberNames, Spare, fields_by};
+use crate::format::{Format, KeyPart, Spare, fields_by};
 use crate::records::number_in;
 use csv::ByteRecord;
 use hh_faults::TextError;
+use hh_json::MemberName;
 use hh_stream::KeyHash;
 use std::alloc::{AllocError, Global};
+use std::marker::Model;
 use std::sync::Arc;
 use std::sync::atomic::{AtomicU64, Ordering};
 
@@ -24,6 +25,17 @@ pub enum Column {
     Number(usize),
     /// The first column that the header gives this name.
     Name(Vec<u8>),
+}
+
+impl MemberName for Column {
+    ghost said = { name_of };
+
+    fn name(&self) -> Option<&[u8]> {
+        match self {
+            Column::Name(name) => Some(name.as_slice()),
+            Column::Number(_) => None,
+        }
+    }
 }
 
 /// What each record counts as that fails a test: an item of a key, of weight 1.
@@ -85,6 +97,16 @@ impl Layout {
         ensures { IsPlain result }
     {
         Layout::with_hasher(alloc, KeyHash::fixed())
+    }
+
+    /// Gives the name of the weight's column, where it has one.
+    pub(crate) fn weight_name(&self) -> Option<&[u8]>
+        ensures { option_map (λ name. name.now) result ≡ weight_name self.now.weight }
+    {
+        match &self.weight {
+            Some(column) => column.name(),
+            None => None,
+        }
     }
 
     /// Notes that a reading of all records had this `count` of bad ones.
@@ -153,44 +175,64 @@ pub fn column_of(alloc: Global, word: &[u8], has_header: bool) -> Result<Option<
     }
 }
 
-/// The places of the columns that a layout chooses, from 0 on.
+/// The places of columns, from 0 on.
 #[derive(Drop)]
 pub struct ColumnIndices {
     pub key: Vec<usize>,
     pub weight: Option<usize>,
 }
 
-/// How the records of one text are read, by the columns that its header has.
+/// Which columns of one text a layout reads, by the header that the text has. In contracts they are
+/// the places, or nothing where a record is a key and, where it has a second field, its weight.
 #[derive(Drop)]
-pub struct ChosenLayout {
-    /// How a record is written.
-    pub format: Format,
-    /// The members of an object that columns name.
-    pub names: MemberNames,
-    /// The places of the columns. Nothing says that a record is a key and, where it has a second
-    /// field, its weight.
-    pub columns: Option<ColumnIndices>,
-    /// The part of the key's last field that counts.
-    pub part: KeyPart,
+pub struct Columns {
+    indices: Option<ColumnIndices>,
 }
 
-impl ChosenLayout {
-    /// Copies the layout.
-    pub fn copy(&self, alloc: Global) -> Result<ChosenLayout, AllocError>
-        ensures { IfOk result (λ copy. chosen_places copy ≡ chosen_places self.now) }
+impl Model for Columns {
+    ghost use Rattle.hh_records.specs.Layouts.{Columns, chosen_columns};
+
+    ghost Value = { Columns };
+
+    ghost view = { λ columns. chosen_columns columns.indices };
+}
+
+impl Columns {
+    /// Finds the columns that `layout` names in a text with this `header`, or one of no fields where
+    /// it is to have none.
+    pub fn by_header(
+        alloc: Global,
+        layout: &Layout,
+        header: &ByteRecord,
+    ) -> Result<Columns, TextError>
+        ensures columns { IfOk result (λ columns.
+            columns_in layout.now (fields_of header.now) ≡ Some columns) }
+        ensures refused { IfErr result
+            (ColumnsRefused layout.now (columns_in layout.now (fields_of header.now))) }
     {
-        let columns = match &self.columns {
-            Some(columns) => Some(ColumnIndices {
+        let indices = columns_in(alloc, layout, header)?;
+        Ok(Columns { indices })
+    }
+
+    /// Gives the places of the columns, where a layout names some.
+    pub fn indices(&self) -> Option<&ColumnIndices>
+        ensures { option_map (λ c. (c.now.key.items, c.now.weight)) result ≡ self.now }
+    {
+        self.indices.as_ref()
+    }
+
+    /// Copies the columns.
+    pub fn copy(&self, alloc: Global) -> Result<Columns, AllocError>
+        ensures { IfOk result (λ copy. copy ≡ self.now) }
+    {
+        let Some(columns) = &self.indices else {
+            return Ok(Columns { indices: None });
+        };
+        Ok(Columns {
+            indices: Some(ColumnIndices {
                 key: Vec::from_slice(alloc, columns.key.as_slice())?,
                 weight: columns.weight,
             }),
-            None => None,
-        };
-        Ok(ChosenLayout {
-            format: self.format,
-            names: self.names.copy(alloc)?,
-            columns,
-            part: self.part.copy(alloc)?,
         })
     }
 }
@@ -292,76 +334,40 @@ fn columns_among(
     }
 }
 
-/// Gives the names of `columns`, but for those that have a number.
-fn names_of(alloc: Global, columns: &[Column]) -> Result<Vec<Vec<u8>>, AllocError>
-    ensures { IfOk result (λ names.
-        map (λ name. name.items) names.items ≡ flat_map name_of columns.now) }
+/// Gives a record of the names of the members that the columns of `layout` name, that of the weight
+/// after those of the key.
+fn name_row(alloc: Global, layout: &Layout) -> Result<ByteRecord, AllocError>
+    ensures { IfOk result (λ row. fields_of row
+        ≡ (member_names layout.now).0 ++ option_to_list (member_names layout.now).1) }
 {
-    let mut names = Vec::new(alloc);
-    for column in columns {
-        match column {
-            Column::Name(name) => names.push(Vec::from_slice(alloc, name.as_slice())?)?,
-            Column::Number(_) => {}
+    let mut row = ByteRecord::new(alloc);
+    for column in &layout.key {
+        if let Some(name) = column.name() {
+            row.push_field(name)?;
         }
     }
-    Ok(names)
+    if let Some(name) = layout.weight_name() {
+        row.push_field(name)?;
+    }
+    Ok(row)
 }
 
-/// Gives the members that the columns of `layout` name.
-fn member_names(alloc: Global, layout: &Layout) -> Result<MemberNames, AllocError>
-    ensures { IfOk result (λ names. names_said names ≡ member_names layout.now) }
-{
-    let weight = match &layout.weight {
-        Some(Column::Name(name)) => Some(Vec::from_slice(alloc, name.as_slice())?),
-        Some(Column::Number(_)) | None => None,
-    };
-    Ok(MemberNames {
-        key: names_of(alloc, layout.key.as_slice())?,
-        weight,
-    })
-}
-
-/// Finds the places of the columns that `layout` names. Of objects the fields are the members of
-/// these `names`, and else those of `header`.
+/// Finds the places of the columns that `layout` names. Of objects the fields are the members that
+/// they name, and else those of `header`.
 fn columns_in(
     alloc: Global,
     layout: &Layout,
-    names: &MemberNames,
     header: &ByteRecord,
 ) -> Result<Option<ColumnIndices>, TextError>
-    requires names { names_said names.now ≡ member_names layout.now }
     ensures columns { IfOk result (λ columns.
-        columns_among layout.now (field_names layout.now (fields_of header.now))
-        ≡ Some (chosen_columns columns)) }
-    ensures refused { IfErr result (ColumnsRefused layout.now
-        (columns_among layout.now (field_names layout.now (fields_of header.now)))) }
+        columns_in layout.now (fields_of header.now) ≡ Some (chosen_columns columns)) }
+    ensures refused { IfErr result
+        (ColumnsRefused layout.now (columns_in layout.now (fields_of header.now))) }
 {
     if layout.format.is_json() {
-        return columns_among(alloc, layout, &names.to_row(alloc)?);
+        return columns_among(alloc, layout, &name_row(alloc, layout)?);
     }
     let mut spare = Spare::new(alloc);
-    let fields = fields_by(alloc, layout.format, names, header, &mut spare)?;
+    let fields = fields_by(alloc, layout, header, &mut spare)?;
     columns_among(alloc, layout, fields)
-}
-
-/// Gives how the records of a text are read by `layout` where this is its header, or one of no
-/// fields where it has none.
-pub fn choose(
-    alloc: Global,
-    layout: &Layout,
-    header: &ByteRecord,
-) -> Result<ChosenLayout, TextError>
-    ensures chosen { IfOk result (λ chosen.
-        places_in layout.now (fields_of header.now) ≡ Some (chosen_places chosen)) }
-    ensures refused { IfErr result
-        (ColumnsRefused layout.now (places_in layout.now (fields_of header.now))) }
-{
-    let names = member_names(alloc, layout)?;
-    let columns = columns_in(alloc, layout, &names, header)?;
-    Ok(ChosenLayout {
-        format: layout.format,
-        names,
-        columns,
-        part: layout.part.copy(alloc)?,
-    })
 }

@@ -14,12 +14,10 @@ pub mod retrying;
 mod texts;
 
 pub use decimals::pointed;
-pub use format::{Format, KeyPart, MemberNames};
+pub use format::{Format, KeyPart};
 pub use hh_faults::{BadRecordCause, TextError};
 pub use hh_stream::TakeItems;
-pub use layout::{
-    BadAs, ChosenLayout, Column, ColumnIndices, Layout, choose, column_of, delimiter_of,
-};
+pub use layout::{BadAs, Column, ColumnIndices, Columns, Layout, column_of, delimiter_of};
 pub use layout_words::{LayoutWords, layout_of};
 pub use records::{Room, number_in, read_rows, take_parts, take_row};
 pub use texts::ReadRecords;

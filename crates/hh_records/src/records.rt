@@ -1,6 +1,6 @@
 //! Records of keys and weights, read one by one.
 
-ghost use Rattle.std.specs.Prelude.{length, map, Err, Some, ◌≡◌, ◌+◌, ◌<◌, ◌≤◌, ◌^◌, false, true, min, Ok, MatchOption, IfSome, IfOk, IfErr, OnOk, option_map};
+ghost use Rattle.std.specs.Prelude.{ℕ, length, map, Err, Some, ◌≡◌, ◌+◌, ◌<◌, ◌≤◌, ◌^◌, false, true, min, Ok, MatchOption, IfSome, IfOk, IfErr, OnOk, option_map};
 ghost use Rattle.csv.specs.Reading.{reader_config, reader_state, source_of, stops_reader, strip_bom};
 ghost use Rattle.csv.specs.declared.parser.State.TheVariants as st;
 ghost use Rattle.csv.specs.Records.{fields_of};
@@ -9,13 +9,13 @@ ghost use Rattle.hh_stream.specs.Weights.{max_key_len, max_total};
 ghost use Rattle.hh_stream.specs.Digits.{is_number, value_of};
 ghost use Rattle.hh_stream.specs.Taking.{Takes};
 ghost use Rattle.hh_records.specs.Formats.{part_said, with_part};
-ghost use Rattle.hh_records.specs.Layouts.{parts_by, chosen_columns};
-ghost use Rattle.hh_records.specs.Layouts.{IsReady, RecordRefused, RowsRefused, adds, adds_instead, adds_itself, bad_key, chosen_places, config_of, fields_at, is_hyphen, items_after, items_of_weight, key_of, parts_at, rows_in, rows_left, weight_at, weight_by};
+ghost use Rattle.hh_records.specs.Layouts.{parts_by};
+ghost use Rattle.hh_records.specs.Layouts.{IsReady, RecordRefused, RowsRefused, adds, adds_instead, added_after, adds_itself, bad_key, config_of, fields_at, is_hyphen, items_after, items_of_weight, key_of, parts_at, rows_in, rows_left, weight_at, weight_by};
 ghost use Rattle.hh_records.specs.Streams.{fault_of, parts_of};
 
 use crate::decimals::{scaled, units_in};
 use crate::format::{KeyPart, Spare, fields_by, part_of_last};
-use crate::layout::{ChosenLayout, Layout};
+use crate::layout::{Columns, Layout};
 use csv::{ByteRecord, ErrorKind, Reader, ReaderBuilder, WriterBuilder};
 use hh_faults::{BadRecordCause, TextError};
 use hh_stream::{MAX_KEY_LEN, MAX_TOTAL, TakeItems};
@@ -81,23 +81,16 @@ fn parts_of(row: &ByteRecord) -> Option<(&[u8], Option<&[u8]>)>
     Some((key, row.get(1)))
 }
 
-/// Gives the weight that a record adds to its key after this `total`, which is 0 only where that is
-/// allowed, or the first test that the record fails.
+/// Gives the weight that a record adds to its key, which is 0 only where that is allowed, or the
+/// first test that the record fails.
 #[inline(always)]
-fn weight_added(
-    key: &[u8],
-    field: Option<&[u8]>,
-    total: u64,
-    layout: &Layout,
-) -> Result<u64, BadRecordCause>
-    requires bounded { total ≤ max_total }
-    ensures weight { IfOk result (λ weight. adds_itself layout.now total
-        (Some (key.now, option_map (λ f. f.now) field.entry))
-        ≡ Ok (items_of_weight key.now weight)) }
-    ensures bounded { IfOk result (λ weight. total + weight ≤ max_total) }
+fn weight_added(key: &[u8], field: Option<&[u8]>, layout: &Layout) -> Result<u64, BadRecordCause>
+    ensures weight { IfOk result (λ weight. (w : ℕ) × (weight ≡ min w u64.MAX)
+        × (adds_itself layout.now (Some (key.now, option_map (λ f. f.now) field.entry))
+        ≡ Ok (items_of_weight key.now w))) }
     ensures some { IfOk result (λ _. 0 < length key.now) }
     ensures few { IfOk result (λ _. length key.now ≤ max_key_len) }
-    ensures refused { IfErr result (λ cause. adds_itself layout.now total
+    ensures refused { IfErr result (λ cause. adds_itself layout.now
         (Some (key.now, option_map (λ f. f.now) field.entry)) ≡ Err cause) }
 {
     if key.is_empty() {
@@ -112,32 +105,39 @@ fn weight_added(
     if weight == 0 && !layout.allow_zero {
         return Err(BadRecordCause::ZeroWeight);
     }
-    if weight > MAX_TOTAL - total {
-        return Err(BadRecordCause::TotalTooLarge);
-    }
     Ok(weight)
 }
 
-/// Hands on an item of `key`, or nothing where its `weight` is 0.
+/// Hands on an item of `key` that record `number` adds, or nothing where its `weight` is 0. It is
+/// refused where the total would be too large.
 #[inline(always)]
 fn take_weight<T: TakeItems>(
     alloc: Global,
     taker: &mut T,
+    number: u64,
     key: &[u8],
     weight: u64,
-) -> Result<(), AllocError>
+) -> Result<(), TextError>
     requires some { 0 < length key.now }
     requires few { length key.now ≤ max_key_len }
-    requires bounded { T.weight_taken taker.old + weight ≤ max_total }
-    ensures taken { OnOk result
+    requires bounded { T.weight_taken taker.old ≤ max_total }
+    ensures taken { (w : ℕ) → weight ≡ min w u64.MAX → OnOk result
         (Takes T.with_item T.weight_taken taker.old taker.new (λ xs.
-        xs ≡ items_of_weight key.now weight)) }
+        added_after (T.weight_taken taker.old) (Ok (items_of_weight key.now w)) ≡ Ok xs)) }
     ensures bounded { OnOk result (T.weight_taken taker.new ≤ max_total) }
+    ensures refused { (w : ℕ) → weight ≡ min w u64.MAX → IfErr result (RecordRefused number
+        (added_after (T.weight_taken taker.old) (Ok (items_of_weight key.now w)))) }
 {
+    if weight > MAX_TOTAL - taker.total() {
+        return Err(TextError::BadRecord {
+            number,
+            cause: BadRecordCause::TotalTooLarge,
+        });
+    }
     if weight == 0 {
         return Ok(());
     }
-    taker.take(alloc, key, weight)
+    Ok(taker.take(alloc, key, weight)?)
 }
 
 /// Hands on what record `number` adds that fails a test of this `cause`: where bad records count as
@@ -154,22 +154,22 @@ fn take_bad<T: TakeItems>(
     requires bounded { T.weight_taken taker.old ≤ max_total }
     ensures taken { OnOk result
         (Takes T.with_item T.weight_taken taker.old taker.new (λ xs.
-        adds_instead layout.now (T.weight_taken taker.old) (bad_key layout.now) cause ≡ Ok xs)) }
+        added_after (T.weight_taken taker.old) (adds_instead layout.now (bad_key layout.now) cause)
+        ≡ Ok xs)) }
     ensures bounded { OnOk result (T.weight_taken taker.new ≤ max_total) }
     ensures refused { IfErr result (RecordRefused number
-        (adds_instead layout.now (T.weight_taken taker.old) (bad_key layout.now) cause)) }
+        (added_after (T.weight_taken taker.old)
+        (adds_instead layout.now (bad_key layout.now) cause))) }
 {
     let Some(bad_as) = &layout.bad_as else {
         return Err(TextError::BadRecord { number, cause });
     };
-    if matches!(cause, BadRecordCause::TotalTooLarge) {
-        return Err(TextError::BadRecord { number, cause });
-    }
     let key = bad_as.key.as_slice();
-    match weight_added(key, None, taker.total(), layout) {
+    match weight_added(key, None, layout) {
         Ok(weight) => {
+            take_weight(alloc, taker, number, key, weight)?;
             *bad = bad.saturating_add(1);
-            Ok(take_weight(alloc, taker, key, weight)?)
+            Ok(())
         }
         Err(cause) => Err(TextError::BadRecord { number, cause }),
     }
@@ -206,8 +206,8 @@ pub fn take_parts<T: TakeItems>(
             layout,
         );
     };
-    match weight_added(key, field, taker.total(), layout) {
-        Ok(weight) => Ok(take_weight(alloc, taker, key, weight)?),
+    match weight_added(key, field, layout) {
+        Ok(weight) => take_weight(alloc, taker, number, key, weight),
         Err(cause) => take_bad(alloc, taker, number, cause, bad, layout),
     }
 }
@@ -284,30 +284,30 @@ fn key_at<'r>(
     }
 }
 
-/// The key and the weight's field of a record, where it has the fields for them: at the places of
-/// the columns of `chosen` or, where it has none, by their number.
+/// The key and the weight's field of a record of `layout`, where it has the fields for them: at the
+/// places of `columns` or, where there are none, by their number.
 #[inline(always)]
 fn parts_by<'r>(
     alloc: Global,
     row: &'r ByteRecord,
-    chosen: &ChosenLayout,
+    layout: &Layout,
+    columns: &Columns,
     joined: &'r mut Vec<u8>,
 ) -> Result<Option<(&'r [u8], Option<&'r [u8]>)>, AllocError>
     ensures { IfOk result (λ parts.
         option_map (λ p. (p.0.now, option_map (λ f. f.now) p.1)) parts
-        ≡ parts_by (chosen_columns chosen.now.columns) (part_said chosen.now.part)
-        (fields_of row.now)) }
+        ≡ parts_by columns.now (part_said layout.now.part) (fields_of row.now)) }
 {
-    let Some(columns) = &chosen.columns else {
+    let Some(columns) = columns.indices() else {
         return match parts_of(row) {
-            Some((key, field)) => Ok(Some((chosen.part.of(key), field))),
+            Some((key, field)) => Ok(Some((layout.part.of(key), field))),
             None => Ok(None),
         };
     };
     let Some(field) = weight_field(row, columns.weight) else {
         return Ok(None);
     };
-    match key_at(alloc, row, columns.key.as_slice(), &chosen.part, joined)? {
+    match key_at(alloc, row, columns.key.as_slice(), &layout.part, joined)? {
         Some(key) => Ok(Some((key, field))),
         None => Ok(None),
     }
@@ -335,19 +335,20 @@ impl Room {
     fn parts<'r>(
         &'r mut self,
         row: &'r ByteRecord,
-        chosen: &ChosenLayout,
+        layout: &Layout,
+        columns: &Columns,
     ) -> Result<Option<(&'r [u8], Option<&'r [u8]>)>, AllocError>
         ensures { IfOk result (λ parts.
             option_map (λ p. (p.0.now, option_map (λ f. f.now) p.1)) parts
-            ≡ parts_at (chosen_places chosen.now) (fields_of row.now)) }
+            ≡ parts_at layout.now columns.now (fields_of row.now)) }
     {
         let Room {
             alloc,
             spare,
             joined,
         } = self;
-        let fields = fields_by(*alloc, chosen.format, &chosen.names, row, spare)?;
-        parts_by(*alloc, fields, chosen, joined)
+        let fields = fields_by(*alloc, layout, row, spare)?;
+        parts_by(*alloc, fields, layout, columns, joined)
     }
 }
 
@@ -358,7 +359,7 @@ pub fn take_row<T: TakeItems>(
     taker: &mut T,
     room: &mut Room,
     row: &ByteRecord,
-    chosen: &ChosenLayout,
+    columns: &Columns,
     number: u64,
     bad: &mut u64,
     layout: &Layout,
@@ -367,14 +368,14 @@ pub fn take_row<T: TakeItems>(
     ensures taken { OnOk result
         (Takes T.with_item T.weight_taken taker.old taker.new (λ xs.
         adds layout.now (T.weight_taken taker.old)
-        (parts_at (chosen_places chosen.now) (fields_of row.now)) ≡ Ok xs)) }
+        (parts_at layout.now columns.now (fields_of row.now)) ≡ Ok xs)) }
     ensures bounded { OnOk result (T.weight_taken taker.new ≤ max_total) }
     ensures refused { IfErr result (RecordRefused number
         (adds layout.now (T.weight_taken taker.old)
-        (parts_at (chosen_places chosen.now) (fields_of row.now)))) }
+        (parts_at layout.now columns.now (fields_of row.now)))) }
 {
     let alloc = room.alloc;
-    let parts = room.parts(row, chosen)?;
+    let parts = room.parts(row, layout, columns)?;
     take_parts(alloc, taker, number, parts, bad, layout)
 }
 
@@ -400,7 +401,7 @@ fn take_rows<R: Read, T: TakeItems>(
     rows: &mut Reader<R>,
     row: &mut ByteRecord,
     room: &mut Room,
-    chosen: &ChosenLayout,
+    columns: &Columns,
     before: u64,
     taker: &mut T,
     bad: &mut u64,
@@ -410,13 +411,13 @@ fn take_rows<R: Read, T: TakeItems>(
     requires bounded { T.weight_taken taker.old ≤ max_total }
     ensures items { IfOk result (λ after.
         Takes T.with_item T.weight_taken taker.old taker.new (λ xs.
-        IfSome (rows_left R.remaining (chosen_places chosen.now) rows.old) (λ ps.
+        IfSome (rows_left R.remaining layout.now columns.now rows.old) (λ ps.
         (items_after layout.now (before + 1) (T.weight_taken taker.old) ps ≡ Ok xs)
         × (after ≡ before + length ps)))) }
     ensures bounded { OnOk result (T.weight_taken taker.new ≤ max_total) }
     ensures refused { IfErr result (λ error.
         RowsRefused layout.now before (T.weight_taken taker.old)
-        (rows_left R.remaining (chosen_places chosen.now) rows.old) error) }
+        (rows_left R.remaining layout.now columns.now rows.old) error) }
 {
     let mut number = before;
     while number < u64::MAX {
@@ -426,7 +427,7 @@ fn take_rows<R: Read, T: TakeItems>(
             Err(error) => return Err(fault_of(error.kind())),
         }
         number += 1;
-        take_row(taker, room, row, chosen, number, bad, layout)?;
+        take_row(taker, room, row, columns, number, bad, layout)?;
     }
     Err(TextError::ReadFault)
 }
@@ -447,13 +448,13 @@ fn rows_of<'b>(alloc: Global, bytes: &'b [u8], layout: &Layout) -> Reader<&'b [u
         .from_reader(alloc, bytes)
 }
 
-/// Hands on what each record adds that some bytes are, by the columns of `chosen`, and counts all
+/// Hands on what each record adds that some bytes are, by these `columns`, and counts all
 /// records, with the number of those `before`, and those that are `bad` and count as the key of the
 /// layout.
 pub fn read_rows<T: TakeItems>(
     alloc: Global,
     bytes: &[u8],
-    chosen: &ChosenLayout,
+    columns: &Columns,
     before: u64,
     taker: &mut T,
     bad: &mut u64,
@@ -463,19 +464,19 @@ pub fn read_rows<T: TakeItems>(
     ensures items { IfOk result (λ after.
         Takes T.with_item T.weight_taken taker.old taker.new (λ xs.
         (items_after layout.now (before + 1) (T.weight_taken taker.old)
-        (map (parts_at (chosen_places chosen.now)) (rows_in layout.now bytes.now)) ≡ Ok xs)
+        (map (parts_at layout.now columns.now) (rows_in layout.now bytes.now)) ≡ Ok xs)
         × (after ≡ before + length (rows_in layout.now bytes.now)))) }
     ensures bounded { OnOk result (T.weight_taken taker.new ≤ max_total) }
     ensures refused { IfErr result (λ error.
         RowsRefused layout.now before (T.weight_taken taker.old)
-        (Some (map (parts_at (chosen_places chosen.now)) (rows_in layout.now bytes.now)))
+        (Some (map (parts_at layout.now columns.now) (rows_in layout.now bytes.now)))
         error) }
 {
     let mut rows = rows_of(alloc, bytes, layout);
     let mut row = ByteRecord::new(alloc);
     let mut room = Room::new(alloc);
     let after = take_rows(
-        &mut rows, &mut row, &mut room, chosen, before, taker, bad, layout,
+        &mut rows, &mut row, &mut room, columns, before, taker, bad, layout,
     )?;
     Ok(after)
 }

@@ -1,4 +1,5 @@
-use Rattle.std.proofs.Common.{◌∙◌, ap, map, sym, subst}
+use Rattle.std.proofs.Common.{◌∙◌, ap, sym, subst}
+use Rattle.std.specs.List.{flat_map}
 use Rattle.std.specs.Prelude.{option_map}
 use Rattle.csv.specs.Records.{fields_of}
 use Rattle.json.specs.Find.{BeginsWith, Finds}
@@ -8,8 +9,8 @@ use Rattle.hh_json.proofs.fields.members.Goals as goal
 use Rattle.hh_json.proofs.fields.members.Goals.{else-not-branch, then-not-branch}
 
 pub returns : goal.returns
-returns c =
-    let names = map (λ name. name.items) c.args.names.now in
+returns g c =
+    let names = flat_map g.N.MemberName.said c.args.names.now in
     let weight = option_map (λ name. name.now) c.args.weight in
     let f = subst (λ o. Finds o (object_in c.args.line.now)) c.in-Some.is c.in_ok-object.ensures in
     let pushed = c.in_ok-push_members.ensures f.0 (subst (λ ts. BeginsWith ts f.0) (sym c.root.ensures.same) f.2) in

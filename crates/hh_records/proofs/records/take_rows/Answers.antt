@@ -5,7 +5,7 @@ use Rattle.std.proofs.lemmas.List.Sums.{fold-append, sum_by-append}
 use Rattle.std.proofs.lemmas.Result.{err_from_is_err_and}
 use Rattle.csv.specs.Reading.{reader_config, reader_state, source_of}
 use Rattle.hh_stream.specs.Weights.{Entry}
-use Rattle.hh_records.specs.Layouts.{chosen_places, parts_at}
+use Rattle.hh_records.specs.Layouts.{parts_at}
 use Rattle.hh_records.proofs.ReadFacts.{between-known, read-start, read-more, read-end, read-refused}
 use Rattle.hh_records.proofs.records.take_rows.Goals as goal
 
@@ -26,7 +26,7 @@ loop-number-init g c =
         omega arith,
         All-from_recursion Weighs [] tt,
         refl,
-        read-start (reader_config c.args.rows.now) (parts_at (chosen_places c.args.chosen.now)) c.args.layout.now
+        read-start (reader_config c.args.rows.now) (parts_at c.args.layout.now c.args.columns.now) c.args.layout.now
             (reader_state c.args.rows.now) c.args.before (g.T.TakeItems.weight_taken c.args.taker.now)
             (source_of g.R.Read.remaining c.args.rows.now),
       ),
@@ -39,7 +39,7 @@ returns-in-Ok-false-clause-items g c =
     let r = rw c.in-Ok-false.field-0-test at (c.in-Ok-false.ensures.reads inv.0 inv.1) in
     record {
       xs = xs;
-      given = read-end (reader_config c.args.rows.now) (parts_at (chosen_places c.args.chosen.now))
+      given = read-end (reader_config c.args.rows.now) (parts_at c.args.layout.now c.args.columns.now)
           c.args.layout.now (reader_state c.args.rows.now) c.args.before (g.T.TakeItems.weight_taken c.args.taker.now)
           g.R.Read.remaining c.loop-number.rows c.read_byte_record.new.self _ xs c.loop-number.number inv.3 _
           (between-known (reader_state c.args.rows.now)
@@ -67,7 +67,7 @@ loop-number-preserved g c =
         All-append Weighs xs t.xs weigh t.positive,
         t.taken ∙ ap (λ taker. fold g.T.TakeItems.with_item taker t.xs) made
             ∙ sym (fold-append g.T.TakeItems.with_item c.args.taker.now xs t.xs),
-        read-more (reader_config c.args.rows.now) (parts_at (chosen_places c.args.chosen.now))
+        read-more (reader_config c.args.rows.now) (parts_at c.args.layout.now c.args.columns.now)
             c.args.layout.now (reader_state c.args.rows.now) c.args.before (g.T.TakeItems.weight_taken c.args.taker.now)
             g.R.Read.remaining c.loop-number.rows c.read_byte_record.new.self _ xs c.loop-number.number inv.3 _ t.xs so_far r
             (rw (← total) t.given),
@@ -80,7 +80,7 @@ returns-in_err-take_row-clause-refused g c =
     let inv = c.loop-number.invariant in
     let (xs, total, weigh, made, so_far) = inv.5 in
     let r = rw c.in-Ok-true.field-0-test at (c.in-Ok-true.ensures.reads inv.0 inv.1) in
-    rw (p.1, p.2) (read-refused (reader_config c.args.rows.now) (parts_at (chosen_places c.args.chosen.now))
+    rw (p.1, p.2) (read-refused (reader_config c.args.rows.now) (parts_at c.args.layout.now c.args.columns.now)
     c.args.layout.now (reader_state c.args.rows.now) c.args.before (g.T.TakeItems.weight_taken c.args.taker.now)
     g.R.Read.remaining c.loop-number.rows c.read_byte_record.new.self _ xs c.loop-number.number inv.3 _ _
     (between-known (reader_state c.args.rows.now)

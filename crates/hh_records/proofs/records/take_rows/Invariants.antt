@@ -3,7 +3,7 @@ use Rattle.std.specs.Prelude.{All, fold}
 use Rattle.csv.specs.Reading.{Ready, is_flexible, reader_config, reader_state, reader_trim, source_of}
 use Rattle.csv.specs.declared.reader.Trim.TheVariants as trim
 use Rattle.hh_stream.specs.Weights.{Entry, total_of, max_total}
-use Rattle.hh_records.specs.Layouts.{between, chosen_places, parts_at}
+use Rattle.hh_records.specs.Layouts.{between, parts_at}
 use Rattle.hh_records.proofs.ReadFacts.{ReadSoFar}
 use Rattle.hh_records.proofs.records.take_rows.Given as goal
 
@@ -14,7 +14,7 @@ invariant-loop-number g l = (reader_trim l.rows ≡ trim.None) × Ready l.rows �
     × ((xs : List Entry)
     × (g.T.TakeItems.weight_taken l.taker ≡ g.T.TakeItems.weight_taken l.initial.taker + total_of xs)
     × All (λ (e : Entry). 0 < e.1) xs × (l.taker ≡ fold g.T.TakeItems.with_item l.initial.taker xs)
-    × ReadSoFar (reader_config l.fn.rows) (parts_at (chosen_places l.fn.chosen)) l.fn.layout
+    × ReadSoFar (reader_config l.fn.rows) (parts_at l.fn.layout l.fn.columns) l.fn.layout
     (reader_state l.fn.rows) l.fn.before (g.T.TakeItems.weight_taken l.initial.taker)
     (between (reader_state l.fn.rows) (source_of g.R.Read.remaining l.fn.rows))
     (source_of g.R.Read.remaining l.rows) (reader_state l.rows) xs l.number)

@@ -6,7 +6,7 @@ use Rattle.hh_records.specs.Layouts.{config_of}
 use Rattle.hh_pieces.specs.LongRecords.{LeavesOutside}
 use Rattle.hh_pieces.specs.Texts.{LeavesBytes}
 use Rattle.hh_pieces.specs.Windows.{held_in}
-use Rattle.hh_pieces.proofs.texts.take_long.Given as goal
+use Rattle.hh_pieces.proofs.texts.take_records.Given as goal
 
 abbrev pub invariant-loop-taken : goal.invariant-loop-taken
 invariant-loop-taken g l =

@@ -1,9 +1,9 @@
-use Rattle.std.proofs.Common.{◌+◌, ◌∙◌, refl, sym}
+use Rattle.std.proofs.Common.{◌+◌, ◌∙◌, sym}
 use Rattle.std.proofs.lemmas.Result.{err_from_is_err_and}
 use Rattle.hh_records.specs.Layouts.{config_of}
 use Rattle.hh_pieces.proofs.TakesFacts.{takes-as, takes-none}
 use Rattle.hh_pieces.proofs.TurnFacts.{leaves-first, outside-same, outside-then, record-leaves, record-refused, refused-then, takes-then}
-use Rattle.hh_pieces.proofs.texts.take_long.Goals as goal
+use Rattle.hh_pieces.proofs.texts.take_records.Goals as goal
 
 pub loop-taken-init : goal.loop-taken-init
 loop-taken-init g c = (
@@ -22,7 +22,7 @@ loop-taken-preserved g c =
           c.loop-taken.taker c.take_row.new.taker c.args.before c.loop-taken.taken.number (c.loop-taken.taken.number + 1) _ _ _
           c.loop-taken.invariant.1
           (takes-as _ _ _ _ _ _ c.in_ok-take_row.ensures.taken (λ es added. record-leaves c.args.layout.now c.args.columns.now
-          c.limits-limits.result c.loop-taken.taken.number weight _ _ _ (λ fs. c.limits-limits.ensures c.args.layout.now weight fs refl)
+          c.of-limits.result c.loop-taken.taken.number weight _ _ _ (λ fs. c.of-limits.ensures weight fs)
           es found added)),
       λ outside. outside-then (config_of c.args.layout.now) _ _ _ (c.loop-taken.invariant.2 c.loop-taken-test.true)
           (rw c.syntax_of-syntax.ensures at (c.in_ok-found.ensures.outside (sym c.is_outside.ensures ∙ outside))),
@@ -37,8 +37,8 @@ returns-in_err-take_row-clause-refused g c =
     let so_far = c.loop-taken.invariant.1 in
     rw (p.1, p.2) (refused-then c.args.layout.now c.args.columns.now c.args.before c.loop-taken.taken.number
     (g.T.TakeItems.weight_taken c.args.taker.now) weight so_far.xs _ _ c.in_err-take_row.field-0.0 so_far.weight so_far.given
-    (record-refused c.args.layout.now c.args.columns.now c.limits-limits.result c.loop-taken.taken.number weight _ _ _
-    (λ fs. c.limits-limits.ensures c.args.layout.now weight fs refl) c.in_err-take_row.field-0.0 found
+    (record-refused c.args.layout.now c.args.columns.now c.of-limits.result c.loop-taken.taken.number weight _ _ _
+    (λ fs. c.of-limits.ensures weight fs) c.in_err-take_row.field-0.0 found
     c.in_err-take_row.ensures.refused))
 
 -- the end of the text
