@@ -21,16 +21,15 @@ use Rattle.hh_faults.specs.declared.error.ToolError.TheVariants as tool
 -- ---- keys by a tally
 module _ (names : Bool) (t : TallyView) (es : List Entry) where
   -- what a tally and a count say of the weights of keys is what they weigh in the records
-  pub weights_found : {E : Type 0} (o : Option (Option Reading)) (counted : List ℕ) (r : Result (Vec ℕ Global) E)
+  pub weights_found : (o : Option (Option Reading)) (counted ws : List ℕ)
       → TalliesRecords t.room (record { names_columns = names; reading = o }) t
       → WeighsRecords (record { names_columns = names; reading = o }) (keys_of (unsure_of t es)) counted
       → ((xs : List Entry) → AreBounds t xs → counted ≡ weights_at (keys_of (unsure_of t es)) xs
-      → IfOk r (λ ws. ws.items ≡ weights_at (keys_of es) xs))
-      → IfOk r (λ ws. WeighsRecords (record { names_columns = names; reading = o }) (keys_of es) ws.items)
-  weights_found None counted (Ok ws) tallies weighs law = tt
-  weights_found (Some k) counted (Ok ws) (xs, read, room, bounds) weighs law =
+      → ws ≡ weights_at (keys_of es) xs)
+      → WeighsRecords (record { names_columns = names; reading = o }) (keys_of es) ws
+  weights_found None counted ws tallies weighs law = tt
+  weights_found (Some k) counted ws (xs, read, room, bounds) weighs law =
       λ ys again. let same : xs ≡ ys = cc in law xs bounds (weighs xs read) ∙ ap (weights_at (keys_of es)) same
-  weights_found o counted (Err e) tallies weighs law = tt
 
   -- and those above p/q of the total are the heavy keys
   pub keys_found : (o : Option (Option Reading)) (p q : ℕ) (ws : List ℕ) (rows : List Entry)

@@ -5,7 +5,7 @@ use Rattle.std.proofs.lemmas.Option.{get_or_from_slice_get, slice_get-map}
 use Rattle.std.specs.Option.{option_map}
 use Rattle.std.proofs.lemmas.Grind.{flat_map-append}
 use Rattle.std.proofs.lemmas.List.Sums.{sum_by-append}
-use Rattle.hh_stream.specs.Weights.{Bytes, Entry, at_key, max_total, weight_of, total_of}
+use Rattle.hh_stream.specs.Weights.{Bytes, Entry, at_key, max_total, weight_of}
 use Rattle.hh_shared.proofs.Tallies.{added-append}
 use Rattle.hh_counters.specs.Counting.{Count, count_of}
 use Rattle.hh_summaries.specs.Report.{weights_at, counts_with}

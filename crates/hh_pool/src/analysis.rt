@@ -157,11 +157,7 @@ fn merge_pieces<R: Threads + Wait + Sync, P: Pieces + Sync, G: Gate + Sync>(
 
 /// Refuses another total than the first pass had, where anything was counted. Only pieces that
 /// changed between the passes come to this.
-fn check_totals(
-    candidates: &Candidates,
-    counted: u64,
-    total: u64,
-) -> Result<(), PieceFault>
+fn check_totals(candidates: &Candidates, counted: u64, total: u64) -> Result<(), PieceFault>
     ensures same { OnOk result (0 < length candidates.now → counted ≡ total) }
     ensures differs { IsErr result → (0 < length candidates.now) × (counted ≢ total) }
     ensures refused { IsErr result → result ≡ Err PieceFault.Refused }

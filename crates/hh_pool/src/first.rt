@@ -1,7 +1,7 @@
 //! The first pass: each piece is summarised, and its items are added to the cells of one table.
 
 ghost use Rattle.std.specs.Prelude.{◌≡◌, ◌+◌, ◌*◌, ◌<◌, ◌≤◌, ◌++◌, ◌⊎◌};
-ghost use Rattle.std.specs.Prelude.{[], ℕ, List, length, map, max, sum, true, IfOk, IsErr, IsErrOf, OnOk};
+ghost use Rattle.std.specs.Prelude.{[], ℕ, List, length, map, max, sum, true, IfOk, IsErr, IsErrOf};
 ghost use Rattle.hh_stream.specs.Weights.{max_total, Entry, total_of};
 ghost use Rattle.hh_stream.specs.Cuttings.{pieces_of, whole_of};
 ghost use Rattle.hh_stream.specs.Ranges.{in_range};

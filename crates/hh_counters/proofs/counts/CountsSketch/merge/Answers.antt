@@ -1,4 +1,4 @@
-use Rattle.std.proofs.Common.{◌∙◌, ap, length, sym, arith}
+use Rattle.std.proofs.Common.{◌∙◌, ap, length, arith}
 use Rattle.hh_counters.proofs.CountFacts.{all-written, counts-join}
 use Rattle.hh_counters.proofs.counts.CountsSketch.merge.Goals as goal
 
