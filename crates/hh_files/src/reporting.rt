@@ -20,7 +20,7 @@ use crate::file_passes::{tally_of_sources, weights_in};
 use hh_counters::{Candidates, Heavy};
 use hh_faults::ToolError;
 use hh_pieces::{ReadAt, SourceRecords};
-use hh_reports::{Prepared, prepare};
+use hh_reports::prepare;
 use hh_rows::{ReportOptions, RowOptions, printed_text};
 use hh_stream::{Key, TakeItems};
 use hh_tally::{Room, Tally};
@@ -28,8 +28,8 @@ use std::alloc::Global;
 use std::sync::Wait;
 use std::thread::Threads;
 
-/// Finds the weights of the keys of `contenders` in `records`, whose tally this is: those of which it
-/// isn't sure are counted, in another pass.
+/// Finds the weights of the keys of `contenders` in `records`, whose tally this is: those of which
+/// it isn't sure are counted, in another pass.
 fn weights_of<T: Threads + Wait + Sync, S: ReadAt + Sync>(
     rt: &T,
     alloc: Global,
@@ -123,7 +123,7 @@ fn reported_of_files<T: Threads + Wait + Sync, S: ReadAt + Sync>(
 {
     match prepare(alloc, options, records.layout.hash) {
         Ok(prepared) => {
-            let Prepared { p, q, .. } = prepared;
+            let (p, q) = (prepared.p, prepared.q);
             keys_of_sources(rt, alloc, records, options.k, options.workers, p, q)
         }
         Err(fault) => Err(fault),

@@ -1,5 +1,5 @@
-//! Weighted streams analysed by threads: plans to merge summaries by, and two passes over the pieces
-//! of a stream, whose outcome is the same whatever worker does which piece.
+//! Weighted streams analysed by threads: plans to merge summaries by, and two passes over the
+//! pieces of a stream, whose outcome is the same whatever worker does which piece.
 #![tactic(auto)]
 
 mod analysis;
