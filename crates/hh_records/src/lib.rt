@@ -20,4 +20,4 @@ pub use hh_stream::TakeItems;
 pub use layout::{BadAs, Column, ColumnIndices, Columns, Layout, column_of, delimiter_of};
 pub use layout_words::{LayoutWords, layout_of};
 pub use records::{Room, number_in, read_rows, take_parts, take_row};
-pub use texts::ReadRecords;
+pub use texts::{ReadRecords, gather_in_turn};
