@@ -134,7 +134,9 @@ fn refusal_of(fault: &Fault) -> Option<ToolError>
 /// The text of a fault that is no refusal of the program.
 fn other_text(alloc: Global, fault: &Fault) -> Result<String, AllocError> {
     match (fault.kind, fault.cause, fault.number) {
-        (20, 0, number) => format!(in alloc; "end {number}: before the one before it, or after all bytes"),
+        (20, 0, number) => format!(in alloc;
+            "end {number}: before the one before it, or after all bytes"
+        ),
         (21, 0, 0) => "weights must be none, or one for each end".to_string(alloc),
         (22, 0, 0) => "delimiter must be no quote, CR or LF".to_string(alloc),
         (23, 0, 0) => "columns must be numbers from 1 on or, with header 1, names".to_string(alloc),
@@ -179,17 +181,4 @@ pub extern "C" fn proved_strerror(
             MEMORY
         }
     }
-}
-
-/// The version of the program that the library came with.
-const RELEASE: &[u8] = b"1.0.0";
-
-/// Gives the version of the program that the library came with.
-#[unsafe(no_mangle)]
-pub extern "C" fn proved_release(out: &mut [u8], needed: &mut usize) -> u32
-    ensures statuses { (result ≡ 0) ⊎ (result ≡ 5) }
-    ensures within { result ≡ 0 → needed.new ≤ length out.old }
-    ensures unchanged { result ≢ 0 → out.new ≡ out.old }
-{
-    give(RELEASE, out, needed)
 }

@@ -21,7 +21,7 @@ mod questions;
 mod report;
 mod room;
 
-ghost use Rattle.std.specs.Prelude.{◌≡◌, ◌≤◌, length};
+ghost use Rattle.std.specs.Prelude.{◌≡◌, ◌≢◌, ◌≤◌, ◌⊎◌, length};
 ghost use Rattle.hh_saved.specs.Sizes.{most_summary_bytes};
 ghost use Rattle.hh_summaries.specs.Counters.{max_k};
 ghost use Rattle.hh_stream.specs.Weights.{max_key_len};
@@ -34,6 +34,7 @@ use hh_stream::MAX_KEY_LEN;
 pub use info::Info;
 pub use layout::TextLayout;
 pub use room::Bounds;
+use room::give;
 
 /// The number of this interface.
 const VERSION: u32 = 1;
@@ -44,6 +45,19 @@ pub extern "C" fn proved_version() -> u32
     ensures { result ≡ 1 }
 {
     VERSION
+}
+
+/// The version of the program that the library came with.
+const RELEASE: &[u8] = b"1.0.0";
+
+/// Gives the version of the program that the library came with.
+#[unsafe(no_mangle)]
+pub extern "C" fn proved_release(out: &mut [u8], needed: &mut usize) -> u32
+    ensures statuses { (result ≡ 0) ⊎ (result ≡ 5) }
+    ensures within { result ≡ 0 → needed.new ≤ length out.old }
+    ensures unchanged { result ≢ 0 → out.new ≡ out.old }
+{
+    give(RELEASE, out, needed)
 }
 
 /// Gives the most bytes of a saved summary with `k` counters, whose keys have at most `longest`
