@@ -11,7 +11,7 @@ ghost use Rattle.heavy_ffi.specs.Changes.{Changes, ChangeRefused, LeavesChanged,
 ghost use Rattle.heavy_ffi.specs.Faults.{IsTold, no_value};
 ghost use Rattle.heavy_ffi.specs.Items.{items_of, keys_of, shape_fault};
 ghost use Rattle.heavy_ffi.specs.Layouts.{Laid, LaidRefused, layout_fault};
-ghost use Rattle.heavy_ffi.specs.Outcomes.{AnswersAfter, AnswersOn, Becomes, TellsHeadOf};
+ghost use Rattle.heavy_ffi.specs.Outcomes.{AnswersAfter, AnswersOn, Becomes, IsOutcome, TellsHeadOf};
 
 use crate::fault::{Fault, tell};
 use crate::handle::Heavy;
@@ -65,11 +65,13 @@ impl Change<'_> {
 /// Makes a `change` of the value that `heavy` has. After a refusal that is as it was.
 fn make_change(alloc: Global, heavy: &mut Heavy, change: Change, fault: &mut Fault) -> u32
     requires { change_fault change ≡ None }
-    ensures answers { AnswersOn heavy.old.place.value (LeavesChanged change.entry)
-        (ChangeRefused change.entry) result (heavy.old.place.value ∷ [])
-        (heavy.new.place.value ∷ []) 1 fault.new }
+    ensures outcome { IfSome heavy.old.place.value (λ value. IsOutcome
+        (LeavesChanged change.entry value) (ChangeRefused change.entry value)
+        result (heavy.old.place.value ∷ []) (heavy.new.place.value ∷ []) 1 fault.new) }
     ensures early { IsSome heavy.old.place.value
         → IfSome (bad_head change.entry) (IsTold result fault.new) }
+    ensures nothing { heavy.old.place.value ≡ None
+        → (result ≡ 2) × (fault.new ≡ no_value) × (heavy.new.place.value ≡ None) }
     ensures no_room { result ≢ 5 }
 {
     let Some(mut value) = heavy.take(alloc) else {
@@ -187,10 +189,11 @@ pub extern "C" fn proved_merge_saved(
 
 /// Merges `next`, which stays, into the value that `heavy` has, as file 2.
 fn merge_value(alloc: Global, heavy: &mut Heavy, next: &mut Accumulator, fault: &mut Fault) -> u32
-    ensures answers { AnswersOn heavy.old.place.value
-        (λ value. Becomes (merge_saved 2 value next.old))
-        (λ value. Refuses (merge_saved 2 value next.old))
-        result (heavy.old.place.value ∷ []) (heavy.new.place.value ∷ []) 1 fault.new }
+    ensures outcome { IfSome heavy.old.place.value (λ value. IsOutcome
+        (Becomes (merge_saved 2 value next.old)) (Refuses (merge_saved 2 value next.old))
+        result (heavy.old.place.value ∷ []) (heavy.new.place.value ∷ []) 1 fault.new) }
+    ensures nothing { heavy.old.place.value ≡ None
+        → (result ≡ 2) × (fault.new ≡ no_value) × (heavy.new.place.value ≡ None) }
     ensures kept { next.new ≡ next.old }
     ensures no_room { result ≢ 5 }
 {
