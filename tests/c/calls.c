@@ -342,11 +342,12 @@ static void try_entries(void) {
     a = entries(BYTES(BOTH), 1);
     check("entries in a small room", small(&a, 2));
     free(a.room);
-    /* version 1, in which a key's length has one byte: k 2, a total of 9, b 3 and cd 5 */
+    /* version 1, in which a key's length has one byte: k 2, a total of 9, b 3 and cd 5; and what is saved of it */
     static const char FIRST[] = "HHS1\1\0\2\0\0\0\0\0\0\0\11\0\2\1b\0\0\0\0\0\0\0\3\2cd\0\0\0\0\0\0\0\5";
+    static const char SAVED[] = "HHS2\1\0\2\0\0\0\0\0\0\0\11\0\2\0\1b\0\0\0\0\0\0\0\3\0\2cd\0\0\0\0\0\0\0\5";
     a = entries(BYTES(FIRST), 2);
-    check("entries of version 1", a.status == HEAVY_DONE && a.needed == 2 && is_entry(&a, 0, FIRST, "b", 3)
-          && is_entry(&a, 1, FIRST, "cd", 5));
+    check("entries of version 1", a.status == HEAVY_DONE && a.needed == 2 && is_entry(&a, 0, SAVED, "b", 3)
+          && is_entry(&a, 1, SAVED, "cd", 5));
     free(a.room);
     struct answer file = summarise("", 2, 17);
     a = entries(file.room, file.needed, 0);
