@@ -48,7 +48,8 @@ class HeavyError(ValueError):
         self.cause = Cause((kind, cause)) if (kind, cause) in _CAUSES else None
         self.number = number
         text = _text_of(Fault(kind, cause, number))
-        super().__init__(text.replace("with header 1,", "with header=True,").replace("must be no quote", "must be one byte, and no quote"))
+        text = text.replace("with header 1,", "with header=True,").replace("must be no quote", "must be one byte, and no quote")
+        super().__init__(text)
         self.numbers = (status, kind, cause, number)
 
     def __reduce__(self) -> tuple[type[HeavyError], tuple[int, int, int, int], dict[str, Any]]:
