@@ -1,7 +1,8 @@
 -- What a call leaves, by what it is of.
-use Rattle.std.proofs.Common.{◌≡◌, ◌∙◌, ◌⊎◌, inl, inr, ℕ, List, length, Option, Some, None, Result, Ok, Err, IfOk, IfErr, refl, subst, sym}
+use Rattle.std.proofs.Common.{◌≡◌, ◌∙◌, ◌⊎◌, inl, inr, ℕ, List, [], ◌∷◌, length, ap, arith, Option, Some, None, Result, Ok, Err, IfOk, IfErr, refl, subst, sym}
 use Rattle.std.specs.Prelude.{IfSome, IsErrAnd, IsOk, IsOkAnd, MatchResult}
 use Rattle.std.specs.Global.{Vec}
+use Rattle.hh_faults.specs.Status.{status_of}
 use Rattle.hh_faults.specs.declared.error.ToolError.{ToolError}
 use Rattle.hh_faults.specs.declared.error.ToolError.TheVariants as tool
 use Rattle.hh_saved.specs.Spelling.{Spells}
@@ -80,3 +81,50 @@ module _ (Gives : List ℕ → List ℕ → Type 0) (Refused : List ℕ → Tool
   by_file (Some v) (Err e) (Err f) saved no_memory gives made refused o =
       outcome_of (Gives (file_with v)) (Refused (file_with v)) (Err f) tt
       (subst (Refused (file_with v)) (sym (refused ∙ no_memory)) (memory (file_with v))) o
+
+-- a refusal has a status of its own
+refusal_status : (e : ToolError) → (status_of e ≡ 0 → ⊥) × (status_of e ≡ 5 → ⊥)
+refusal_status tool.BadDepth = (λ h. omega (arith, h), λ h. omega (arith, h))
+refusal_status tool.BadK = (λ h. omega (arith, h), λ h. omega (arith, h))
+refusal_status tool.BadWorkers = (λ h. omega (arith, h), λ h. omega (arith, h))
+refusal_status tool.BadWidth = (λ h. omega (arith, h), λ h. omega (arith, h))
+refusal_status tool.BadPieces = (λ h. omega (arith, h), λ h. omega (arith, h))
+refusal_status (tool.BadTree f) = (λ h. omega (arith, h), λ h. omega (arith, h))
+refusal_status tool.BadMethod = (λ h. omega (arith, h), λ h. omega (arith, h))
+refusal_status tool.ReadFault = (λ h. omega (arith, h), λ h. omega (arith, h))
+refusal_status (tool.BadRecord n c) = (λ h. omega (arith, h), λ h. omega (arith, h))
+refusal_status (tool.BadFile n f) = (λ h. omega (arith, h), λ h. omega (arith, h))
+refusal_status (tool.MixedKinds n) = (λ h. omega (arith, h), λ h. omega (arith, h))
+refusal_status (tool.CannotMerge n c) = (λ h. omega (arith, h), λ h. omega (arith, h))
+refusal_status (tool.BadKey n c) = (λ h. omega (arith, h), λ h. omega (arith, h))
+refusal_status tool.NotCounters = (λ h. omega (arith, h), λ h. omega (arith, h))
+refusal_status tool.TotalDiffers = (λ h. omega (arith, h), λ h. omega (arith, h))
+refusal_status (tool.WriteFault n) = (λ h. omega (arith, h), λ h. omega (arith, h))
+refusal_status (tool.FileFault n) = (λ h. omega (arith, h), λ h. omega (arith, h))
+refusal_status tool.Memory = (λ h. omega (arith, h), λ h. omega (arith, h))
+refusal_status tool.BadThreshold = (λ h. omega (arith, h), λ h. omega (arith, h))
+refusal_status tool.BadDelimiter = (λ h. omega (arith, h), λ h. omega (arith, h))
+refusal_status tool.BadColumn = (λ h. omega (arith, h), λ h. omega (arith, h))
+refusal_status tool.NoColumn = (λ h. omega (arith, h), λ h. omega (arith, h))
+refusal_status tool.WeightOutside = (λ h. omega (arith, h), λ h. omega (arith, h))
+refusal_status (tool.TopUncertain n m) = (λ h. omega (arith, h), λ h. omega (arith, h))
+
+-- a change that is refused leaves the value as it was, and tells the refusal
+pub refused_change : (P : Saved → List (Option Saved) → Type 0) (Q : Saved → ToolError → Type 0) (held new : Option Saved)
+    (v lent w : Saved) (e : ToolError) {status : ℕ} {fault : Fault} → held ≡ Some v → new ≡ Some w → lent ≡ v → w ≡ lent
+    → Q lent e → IsTold status fault e
+    → IfSome held (λ value. IsOutcome (P value) (Q value) status (held ∷ []) (new ∷ []) 1 fault)
+refused_change P Q held new v lent w e {status} {fault} is came same stays refused told =
+    let some : status ≡ 0 → ⊥ = λ h. (refusal_status e).0 (sym told.status ∙ h) in
+    let fits : status ≡ 5 → ⊥ = λ h. (refusal_status e).1 (sym told.status ∙ h) in
+    rw (is, came) (record {
+      done = λ h. absurd (some h);
+      within = λ h. absurd (some h);
+      small = λ h. absurd (fits h);
+      refused = λ h k. (e, subst (λ (x : Saved). Q x e) same refused, told);
+      unchanged = λ h. ap (λ (x : Saved). Some x ∷ []) (stays ∙ same);
+      no_fault = λ h. elim h [
+        | inl a ↦ absurd (some a)
+        | inr b ↦ absurd (fits b)
+      ];
+    })

@@ -1,5 +1,5 @@
 -- Changes of the value that a handle has.
-use Rattle.std.specs.Prelude.{◌≡◌, ℕ, List, [], ◌∷◌, length, Option, Some, None, Ok}
+use Rattle.std.specs.Prelude.{◌≡◌, List, [], ◌∷◌, length, Option, Some, None, Ok}
 use Rattle.hh_faults.specs.declared.error.ToolError.{ToolError}
 use Rattle.hh_saved.specs.Reading.{head_at}
 use Rattle.hh_saved.specs.declared.saved.Saved.{Saved}
