@@ -28,7 +28,7 @@ build_library() {
 }
 
 # The calls that the header declares.
-calls_of_library() { sed -n -E 's/^(uint32_t|size_t) (heavy_[a-z_]*)\(.*/\2/p' "$top/include/heavy.h"; }
+calls_of_library() { sed -n -E 's/^(uint32_t|size_t|void) (heavy_[a-z_]*)\(.*/\2/p' "$top/include/heavy.h"; }
 
 # Whether there is what hides the names of a static library that are no calls.
 can_hide() { command -v "${LD:-ld}" > /dev/null && command -v "${OBJCOPY:-objcopy}" > /dev/null; }
@@ -38,18 +38,20 @@ hide_others() {
   can_hide || { tell "there is no ld or no objcopy, so libheavy.a shows names beside those of heavy.h"; return 0; }
   (
     cd "$1"
-    calls_of_library > calls
+    calls_of_library > names
     "${LD:-ld}" -r -o heavy.o --whole-archive libheavy.a
-    "${OBJCOPY:-objcopy}" --keep-global-symbols=calls heavy.o
+    "${OBJCOPY:-objcopy}" --keep-global-symbols=names heavy.o
     rm libheavy.a
     "${AR:-ar}" rcs libheavy.a heavy.o
   )
 }
 
-# The static library in this folder, with the toolchain's own few functions of C.
+# The static library in this folder: the calls of the header over the proved ones, and the toolchain's own few functions of C.
 make_static() {
   cp "$archive" "$1/libheavy.a"
   chmod u+w "$1/libheavy.a"
+  awk -f "$top/bin/calls.awk" "$top/include/heavy.h" > "$1/calls.c"
+  "${CC:-cc}" -std=c11 -O2 -fPIC "-I$top/include" -c "$1/calls.c" -o "$1/calls.o"
   (cd "$1" && "${AR:-ar}" x "$functions" && "${AR:-ar}" rs libheavy.a ./*.o 2> /dev/null)
   hide_others "$1"
 }

@@ -26,6 +26,7 @@ import tempfile
 import threading
 import types
 import unittest
+import weakref
 from decimal import Decimal
 from fractions import Fraction
 from pathlib import Path
@@ -125,15 +126,14 @@ class Pages(unittest.TestCase):
 
 
 def added(keys: bytes, ends: list[int], weights: list[int]) -> list[tuple[bytes, int]] | tuple[int, int]:
-    """What heavy_add_by makes of no items with k 5: the entries, or else the fault's kind and number."""
-    empty = heavy.Summary(k=5).to_bytes()
-    out, needed, fault = ctypes.create_string_buffer(4096), ctypes.c_size_t(), heavy._library.Fault()
-    lent = [(ctypes.c_uint64 * max(len(numbers), 1))(*numbers) for numbers in (ends, weights)]
-    status = heavy._library.calls.heavy_add_by(
-        *heavy._library.lent(empty), *heavy._library.lent(keys), lent[0], len(ends), lent[1], len(weights),
-        ctypes.byref(heavy._library.HashWords((5, 9))), out, 4096, ctypes.byref(needed), ctypes.byref(fault),
-    )
-    return heavy.Summary(out.raw[: needed.value]).entries() if status == 0 else (fault.kind, fault.number)
+    """What heavy_update_items makes of no items with k 5: the entries, or else the fault's kind and number."""
+    value = heavy._library.Handle.loaded(heavy.Summary(k=5).to_bytes())
+    lent = [(ctypes.c_uint64 * len(numbers))(*numbers) for numbers in (ends, weights)]
+    try:
+        value.make(heavy._library.calls.heavy_update_items, *heavy._library.lent(keys), lent[0], len(ends), lent[1], len(weights))
+    except heavy.HeavyError as refused:
+        return refused.numbers[1], refused.numbers[3]
+    return heavy.Summary(value.saved()).entries()
 
 
 class Index:
@@ -305,9 +305,9 @@ class Growing(unittest.TestCase):
         for make in (lambda: heavy.Summary(k=5), lambda: heavy.Table(width=8, depth=2)):
             before = updated(make(), ("a", 1), ("b", 1))
             for name, call in (
-                ("heavy_open_by", lambda it: it.copy().update("c")), ("heavy_update", lambda it: it.update("c")),
-                ("heavy_save", heavy.Summary.to_bytes), ("heavy_add_by", lambda it: it.update_many([*"cde"])),
-                ("heavy_merge", lambda it: it.__iadd__(before)),
+                ("heavy_load", lambda it: it.copy().update("c")), ("heavy_update", lambda it: it.update("c")),
+                ("heavy_save", heavy.Summary.to_bytes), ("heavy_update_items", lambda it: it.update_many([*"cde"])),
+                ("heavy_merge_saved", lambda it: it.__iadd__(before)),
             ):
                 grown = updated(make(), ("a", 1), ("b", 1))
                 with self.subTest(name), mock.patch.object(heavy._library.calls, name, refused):
@@ -315,11 +315,11 @@ class Growing(unittest.TestCase):
                 self.assertEqual((grown, grown.total), (before, 2), name)
 
     def test_updates_copy_no_file(self) -> None:
-        """An update makes a call of its own; the file is read before the first one, and written where its bytes are asked for."""
+        """An update makes one call; the file is written where its bytes are asked for."""
         for file in (heavy.Summary(k=9), heavy.Table(width=8)):
             counted: collections.Counter[str] = collections.Counter()
             with contextlib.ExitStack() as stack:
-                for name in ("heavy_open_by", "heavy_update", "heavy_save", "heavy_add_by"):
+                for name in ("heavy_update", "heavy_save", "heavy_update_items"):
                     call = getattr(heavy._library.calls, name)
 
                     def tallied(*words: object, name: str = name, call: object = call) -> int:
@@ -328,11 +328,11 @@ class Growing(unittest.TestCase):
 
                     stack.enter_context(mock.patch.object(heavy._library.calls, name, tallied))
                 updated(file, *[("a", 1), ("b", 2)] * 50)
-                self.assertEqual(counted, {"heavy_open_by": 1, "heavy_update": 100})
+                self.assertEqual(counted, {"heavy_update": 100})
                 self.assertEqual((file.total, file.ask("b")[1], file.describe().total), (150, 100, 150))
                 updated(file, ("c", 5))
                 self.assertEqual((file.total, file.copy().total), (155, 155))
-                self.assertEqual(counted, {"heavy_open_by": 1, "heavy_update": 101, "heavy_save": 2})
+                self.assertEqual(counted, {"heavy_update": 101, "heavy_save": 2})
 
     def test_all_calls_see_updates(self) -> None:
         """What was added item by item is seen by each call, as by a file of these bytes."""
@@ -361,16 +361,20 @@ class Growing(unittest.TestCase):
             (lambda it: self.assertRaises(ValueError, it.update, "a", 2**63 - 1), 1),
         ):
             summary = updated(heavy.Summary(k=5), ("a", 1))
-            words = summary._value._words[0]._obj
-            self.assertEqual(words.full, 1)
+            held = weakref.ref(summary._value)
             change(summary)
-            self.assertEqual(words.full, stays)
+            self.assertEqual(held() is not None, bool(stays))
             del summary
-            self.assertEqual(words.full, 0)
-        words = heavy._library.GrowingWords()
-        with mock.patch.object(heavy._growing, "GrowingWords", lambda: words):
+            self.assertIsNone(held())
+        freed: list[object] = []
+        with mock.patch.object(heavy._library.calls, "heavy_free", freed.append):
+            value = heavy._library.Handle.loaded(heavy.Summary(k=5).to_bytes())
+            freed.clear()
+            at = value._value
+            del value
             self.assertRaisesRegex(heavy.HeavyError, "truncated", heavy._growing.Growing, b"HHS")
-        self.assertEqual(words.full, 0)
+        self.assertEqual(freed, [at])
+        heavy._library.calls.heavy_free(at)
 
     def test_many_items(self) -> None:
         keys = [b"%d" % (i * i % 997) for i in range(20_000)]
@@ -444,13 +448,13 @@ class Batches(unittest.TestCase):
 
     def test_calls_of_the_library(self) -> None:
         """The library is called once a batch: at so many items, or so many bytes, and once for what is known at once."""
-        texts, call, sizes = [f"{number:04}" for number in range(20)], heavy._library.calls.heavy_add_by, []
+        texts, call, sizes = [f"{number:04}" for number in range(20)], heavy._library.calls.heavy_update_items, []
 
         def counted(*words: object) -> int:
-            sizes.append(words[5])
+            sizes.append(words[4])
             return call(*words)
 
-        with mock.patch.object(heavy._library.calls, "heavy_add_by", counted):
+        with mock.patch.object(heavy._library.calls, "heavy_update_items", counted):
             for items, size, given, wanted in (
                 (8, 1 << 22, iter(texts), [8, 8, 4]), (8, 16, iter(texts), [5, 5, 5, 5]), (8, 1 << 22, texts, [20]),
                 (20, 1 << 22, iter(texts), [20]), (8, 1 << 22, dict.fromkeys(texts, 1), [20]), (8, 1 << 22, {*texts}, [20]),
@@ -877,7 +881,7 @@ class Mappings(unittest.TestCase):
     def test_one_item_copies_no_file(self) -> None:
         """update_many of one item does what update does, and is refused as it is."""
         for file in (heavy.Summary(k=9), heavy.Table(width=64)):
-            with mock.patch.object(heavy._library.calls, "heavy_add_by", side_effect=AssertionError):
+            with mock.patch.object(heavy._library.calls, "heavy_update_items", side_effect=AssertionError):
                 for given in ((["a"],), ({"a": 5},), (iter(["b"]), [3]), (("a",), array.array("B", [2]))):
                     file.update_many(*given)
                 self.assertRaisesRegex(heavy.HeavyError, "^record 1: total too large$", file.update_many, ["a"], [2**63 - 11])
@@ -2457,8 +2461,8 @@ class Layouts(unittest.TestCase):
         self.assertEqual(pickle.loads(pickle.dumps(layout)), layout)
 
     def test_random_words(self) -> None:
-        """Each call has random words to hash by, and its answer doesn't depend on them."""
-        drawn = [tuple(layout._words()[0]._obj.hash) for layout in [heavy.Layout()] * 20]
+        """Each value has random words to hash by, and no answer depends on them."""
+        drawn = [tuple(heavy._library.random_words()._obj.words) for _ in range(20)]
         self.assertEqual((len(set(drawn)), (0, 0) in drawn), (20, False))
         self.assertEqual(len({heavy.report_csv(OTHERS, 9) for _ in range(20)}), 1)
 

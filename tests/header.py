@@ -27,8 +27,10 @@ STRUCTURES = {
 }
 TYPES = {"u8": "uint8_t", "u32": "uint32_t", "u64": "uint64_t", "usize": "size_t"}
 TYPES.update({name: f"struct {words}" for words, (_, name) in STRUCTURES.items()})
-# What the library alone reads: a pointer and a number of 64 bits.
-TYPES["Growing"] = "struct heavy_growing"
+# What the library alone reads.
+TYPES["Heavy"] = "struct heavy"
+# The calls that make a handle.
+MAKE = {"heavy_new_summary", "heavy_new_table", "heavy_load"}
 SIZES = {"u8": 1, "u32": 4, "u64": 8, "usize": 8}
 # The toolchain's clang has no headers of its own.
 HEADERS = programs.TOP / "tests" / "c" / "headers"
@@ -53,7 +55,7 @@ def numbers() -> dict[str, int]:
         if group in GROUPS:
             name = "NO_MEMORY" if (group, variant) == ("kind_of", "Memory") else words_of(variant)
             made[f"HEAVY_{GROUPS[group]}{name}"] = int(number)
-    for file in ("Items", "Layouts", "Infos"):
+    for file in ("Faults", "Items", "Layouts", "Infos"):
         kinds = (FFI / "specs" / f"{file}.antt").read_text()
         for name, number in re.findall(r"^(\w+)_kind = (\d+)$", kinds, re.M):
             made[f"HEAVY_{name.upper()}"] = int(number)
@@ -62,8 +64,6 @@ def numbers() -> dict[str, int]:
         made[f"HEAVY_{name}"] = int(status)
     for name in ("DONE", "TOO_SMALL"):
         made[f"HEAVY_{name}"] = int(found(rf"^pub\(crate\) const {name}: u32 = (\d);$", FFI / "src" / "room.rt"))
-    for number, method in re.findall(r"^        (\d) => Method::(\w+),$", (FFI / "src" / "lib.rt").read_text(), re.M):
-        made[f"HEAVY_{words_of(method)}"] = int(number)
     made["HEAVY_VERSION"] = int(found(r"^const VERSION: u32 = (\d+);$", FFI / "src" / "lib.rt"))
     made["HEAVY_MAX_KEY"] = int(found(r"^max_key_len = (\d+)$", CRATES / "hh_stream" / "specs" / "Weights.antt"))
     made["HEAVY_MAX_K"] = int(found(r"^max_k = (\d+)$", CRATES / "hh_summaries" / "specs" / "Counters.antt"))
@@ -71,13 +71,10 @@ def numbers() -> dict[str, int]:
 
 
 def sizes() -> list[str]:
-    """The macros that tell how much room is enough are the definitions' terms, at some numbers."""
+    """The macro that tells a table's room is the definition's term, at some numbers."""
     specs = CRATES / "hh_saved" / "specs" / "Sizes.antt"
-    summary = found(r"^most_summary_bytes k m = ([\dkm +*()]+)$", specs)
     table = found(r"^table_bytes width depth = ([\dwidthepth +*()]+)$", specs)
     lines = []
-    for k, m in ((1, 1), (100, 39), (65535, 4096)):
-        lines.append(f"_Static_assert(HEAVY_SUMMARY_ROOM({k}, {m}) == {eval(summary, {'k': k, 'm': m})}, \"\");")
     for width, depth in ((1, 1), (1024, 4), (65536, 16)):
         size = eval(table, {"width": width, "depth": depth})
         lines.append(f'_Static_assert(HEAVY_TABLE_ROOM({width}, {depth}) == {size}, "");')
@@ -101,28 +98,30 @@ def structures() -> list[str]:
 
 
 def parameter(name: str, kind: str) -> str:
-    """A parameter of a signature as C has it; a slice is a pointer and a length, and one of lengths is so many parts."""
+    """A parameter of a signature as C has it; a slice is a pointer and a length, and one of ends is so many parts."""
     if kind in TYPES:
         return f"{TYPES[kind]} {name}"
     lent, element = re.fullmatch(r"&(mut )?(\[\w+\]|\w+)", kind).groups()
     pointer = f"{'' if lent else 'const '}{TYPES[element.strip('[]')]} *{name}"
-    length = "count" if name in ("lengths", "ends") else f"{name}_len"
+    length = "count" if name == "ends" else f"{name}_len"
     return f"{pointer}, size_t {length}" if element.startswith("[") else pointer
 
 
 def calls() -> dict[str, str]:
-    """The declaration of each call, by name."""
+    """The declaration of each call, by name. What makes a handle gives its place."""
     made = {}
     source = "".join(file.read_text() for file in sorted((FFI / "src").glob("*.rt")))
-    for name, words, answer in re.findall(r'^pub extern "C" fn (\w+)\(([^)]*)\) -> (\w+)$', source, re.M):
-        words = [it for it in re.findall(r"(\w+): ([^,]+)", words) if it[1] != "Global"]
-        made[name] = f"{TYPES[answer]} {name}({', '.join(parameter(*it) for it in words) or 'void'});"
+    for name, words, answer in re.findall(r'^pub extern "C" fn proved_(\w+)\(([^)]*)\)(?: -> (\w+))?$', source, re.M):
+        name = f"heavy_{name}"
+        words = [parameter(*it) for it in re.findall(r"(\w+): ([^,]+)", words) if it[1] != "Global"]
+        words = [it.replace(" *heavy", " **heavy") if name in MAKE else it for it in words]
+        made[name] = f"{TYPES[answer] if answer else 'void'} {name}({', '.join(words) or 'void'});"
     return made
 
 
 def declarations(header: str) -> dict[str, str]:
     """The declaration of each call in a header, by name, on one line."""
-    found = re.findall(r"^((?:uint32_t|size_t) (\w+)\([^;]*;)", header, re.M)
+    found = re.findall(r"^((?:uint32_t|size_t|void) (\w+)\([^;]*;)", header, re.M)
     return {name: re.sub(r"\s+", " ", text) for text, name in found}
 
 

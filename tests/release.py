@@ -426,6 +426,7 @@ def try_versions(checks: programs.Checks) -> None:
         "the program": programs.run([programs.built("heavy_cli"), "--version"]).out.split()[-1].decode(),
         "the man page": found("man/heavy.1", r'^\.TH HEAVY 1 \S+ "heavy (\S+)"'),
         "the header": found("include/heavy.h", r'^#define HEAVY_RELEASE "(.*)"$'),
+        "the library": found("crates/heavy_ffi/src/lib.rt", r'^const RELEASE: &\[u8\] = b"(.*)";$'),
         "the changelog": found("CHANGELOG.md", r"^## \[(\d.*)\] - \d{4}-\d\d-\d\d$"),
         "examples/machines": found("examples/machines/README.md", r"heavy-(\d+\.\d+\.\d+)-x86_64-linux/"),
         "examples/machines, of Debian": found("examples/machines/README.md", r"heavy_(\d+\.\d+\.\d+)_amd64\.deb"),

@@ -35,6 +35,7 @@ class Kind(enum.IntEnum):
     WEIGHT_OUTSIDE = 25
     BAD_LAYOUT = 26
     TOP_UNCERTAIN = 27
+    NO_VALUE = 28
 
 
 class Cause(enum.Enum):

@@ -14,15 +14,14 @@ import struct
 from collections.abc import ItemsView, Mapping, ValuesView
 from concurrent.futures import ThreadPoolExecutor
 from pathlib import Path
-from typing import Any, Callable, Dict, Iterable, Iterator, List, NamedTuple, Optional, Tuple, TypeVar, overload
+from typing import Any, Dict, Iterable, Iterator, List, NamedTuple, Optional, Tuple, TypeVar, overload
 
 from ._columns import ANY, Columns, Items, Key, Keys, batches_of, bytes_of_key, columns_of, comes_by_batches, integer_of_weight
 from ._columns import items_of, lent_items, sum_of, text_of_bytes
 from ._growing import Growing
 from ._library import BAD_METHOD, BAD_RECORD, BAD_THRESHOLD, LARGE, MAX_KEY, MAX_TOTAL, MIXED_KINDS, NOT_COUNTERS, REFUSED
-from ._library import SMALL, TABLE, TOTAL_TOO_LARGE, USAGE, Entry, Fault, HashWords, HeavyError, InfoWords, Pair, answer, calls
-from ._library import checked, flag, given, integer, joined, lent, random_words, say_added
-from ._library import word
+from ._library import SMALL, TABLE, TOTAL_TOO_LARGE, USAGE, Entry, Handle, HeavyError, Pair, answer, calls
+from ._library import flag, integer, joined, lent, random_words, say_added, word
 from ._lock import WITHIN, Lock, changing, reading
 from ._options import PLAIN, Layout, Threshold, error_of, share_of
 from ._records import Bounds, Given, Interval, Named, Records, Row, bytes_of, is_file, parts_of, placing, records_in
@@ -51,24 +50,23 @@ class Info(NamedTuple):
 
 def _info(saved: bytes) -> Info:
     """What is in a saved file."""
-    words, fault = InfoWords(), Fault()
-    checked(calls.heavy_info(*lent(saved), ctypes.byref(words), ctypes.byref(fault)), fault)
+    words, version = Handle.loaded(saved).info(), saved[3:4].decode("latin-1")
     if words.kind == TABLE:
-        return Info(words.version, "table", words.total, depth=words.depth, width=words.width)
-    return Info(words.version, "summary", words.total, words.k, words.keys, words.counters, words.slack)
+        return Info(int(version), "table", words.total, depth=words.depth, width=words.width)
+    return Info(int(version), "summary", words.total, words.k, words.keys, words.counters, words.slack)
 
 
 def _asked_of(saved: bytes, key: bytes) -> Tuple[int, int]:
     """The least and the most that a key's weight can be, by a saved file."""
-    low, high, fault = ctypes.c_uint64(), ctypes.c_uint64(), Fault()
-    words = (*lent(saved), *lent(key), ctypes.byref(low), ctypes.byref(high))
-    checked(calls.heavy_ask(*words, ctypes.byref(fault)), fault)
-    return low.value, high.value
+    both = Pair()
+    Handle.loaded(saved).make(calls.heavy_ask, *lent(key), ctypes.byref(both))
+    return both.low, both.high
 
 
 def _with_items(saved: bytes, columns: Columns, weights: Any) -> bytes:
     """A saved file with these items added, at most `_COLUMN_BATCH` at a time."""
     data, ends, text = columns
+    value = Handle.loaded(saved)
     for start in range(0, len(ends), _COLUMN_BATCH):
         base = int(ends[start - 1]) if start else 0
         part = ends[start : start + _COLUMN_BATCH]
@@ -76,14 +74,13 @@ def _with_items(saved: bytes, columns: Columns, weights: Any) -> bytes:
             part = array.array("Q", [end - base for end in part.tolist()])
         words = data if len(part) == len(ends) else columns.between(base, base + int(part[-1]))
         numbers = None if weights is None else weights[start : start + _COLUMN_BATCH]
-        given_words = *lent_items(Columns(words, part, text), numbers), ctypes.byref(HashWords(random_words()))
-        saved = answer(calls.heavy_add_by, *lent(saved), *given_words, guess=len(saved) + min(len(words) + 10 * len(part), LARGE))
-    return saved
+        value.make(calls.heavy_update_items, *lent_items(Columns(words, part, text), numbers))
+    return value.saved(guess=len(saved) + min(len(data) + 10 * len(ends), LARGE))
 
 
 def _empty(k: int) -> bytes:
     """The saved summary of no items."""
-    return answer(calls.heavy_empty, word("k", k), guess=17)
+    return Handle(calls.heavy_new_summary, word("k", k), random_words()).saved(guess=17)
 
 
 def _empty_table(width: int, depth: int, seed: int) -> bytes:
@@ -92,7 +89,7 @@ def _empty_table(width: int, depth: int, seed: int) -> bytes:
     if not 0 <= drawn < 2**64:
         raise ValueError("seed must be from 0 to 2^64 - 1")
     room = 26 + min(shape[1], 16) * (16 + 8 * min(shape[0], 65536))
-    return answer(calls.heavy_empty_table, *shape, drawn, guess=room)
+    return Handle(calls.heavy_new_table, *shape, drawn).saved(guess=room)
 
 
 class _File:
@@ -159,7 +156,7 @@ class _File:
             return value
         with self._lock.mutex:
             value = self._value
-            return value if isinstance(value, bytes) else value.saved()
+            return value if isinstance(value, bytes) else value.to_bytes()
 
     def _set(self, saved: bytes) -> None:
         """Makes these the file's bytes. The caller owns the lock."""
@@ -205,7 +202,10 @@ class _File:
         >>> Table.of_csv(b"a,5\\n", 8, 2).describe_csv().splitlines()[-3:]
         [b'depth,2', b'width,8', b'total,5']
         """
-        return answer(calls.heavy_describe, *lent(self.to_bytes()), guess=256)
+        info = self.describe()
+        names = ("depth", "width", "total") if info.kind == "table" else ("k", "keys", "total", "counters", "slack")
+        rows = [("version", info.version), ("kind", info.kind), *((name, getattr(info, name)) for name in names)]
+        return "".join(f"{name},{value}\n" for name, value in rows).encode()
 
     def ask(self, key: Key) -> Tuple[int, int]:
         """The least and the most that a key's weight in the stream can be. A text is its bytes in UTF-8.
@@ -223,7 +223,8 @@ class _File:
         [(2, 2), (0, 0)]
         """
         words = columns_of(keys).words()
-        out, count = given(calls.heavy_ask_keys, *lent(self.to_bytes()), *joined(words), of=Pair, guess=len(words))
+        value = Handle.loaded(self.to_bytes())
+        out, count = value.given(calls.heavy_ask_items, *joined(words), of=Pair, guess=len(words))
         return [(low, high) for low, high in struct.iter_unpack("=QQ", memoryview(out).cast("B")[: 16 * count])]
 
     def update(self, key: Key, weight: int = 1) -> None:
@@ -335,11 +336,7 @@ class _File:
         [(b'a', 7), (b'b', 1)]
         """
         with changing(self._lock):
-            self._set(with_records(self.to_bytes(), records, layout, self._begun(layout)))
-
-    def _begun(self, layout: Layout) -> Callable[[bytes], bytes] | None:
-        """What makes a file of this kind of a text's records, where that is faster than to add them to one of no items."""
-        return None
+            self._set(with_records(self.to_bytes(), records, layout))
 
     def _check_total(self, count: int, weights: Any) -> None:
         """Refuses the first of `count` items more that makes the total too large."""
@@ -556,14 +553,6 @@ class Summary(_File, Mapping[Any, Interval]):
         info = self._told()
         return (info.k or 0) - (info.keys or 0)
 
-    def _begun(self, layout: Layout) -> Callable[[bytes], bytes] | None:
-        info = self._told()
-        if info.total:
-            return None
-        k = info.k or 0
-        guess = min(17 + k * (MAX_KEY + 10), LARGE)
-        return lambda text: answer(calls.heavy_summarise_records, *lent(text), *layout._words(), k, guess=guess)
-
     def _number(self, name: str) -> int:
         return int(getattr(self._told(), name))
 
@@ -674,7 +663,7 @@ class Summary(_File, Mapping[Any, Interval]):
         >>> Summary.of_csv(b"a,2\\nb,5\\n").list_csv()
         b'b,5,5\\na,2,2\\n'
         """
-        return answer(calls.heavy_list, *lent(self.to_bytes()), guess=SMALL)
+        return Handle.loaded(self.to_bytes()).answer(calls.heavy_list, guess=SMALL)
 
     def top(self, n: int) -> List[Bounds]:
         """The first n of `rows`.
@@ -780,8 +769,8 @@ class Summary(_File, Mapping[Any, Interval]):
 
     def _confirmed(self, text: bytes, share: Tuple[int, int], layout: Layout) -> bytes:
         """The rows of a report of records."""
-        words = (*lent(self.to_bytes()), *lent(text), *layout._words(), *share)
-        return answer(calls.heavy_confirm_records, *words, guess=SMALL)
+        value = Handle.loaded(self.to_bytes())
+        return value.answer(calls.heavy_confirm_records, *lent(text), *layout._words(), *share, guess=SMALL)
 
     def condense(self, records: Records, *, layout: Layout = PLAIN) -> bytes:
         """CSV records that confirm the same: the weight of each key of the summary that comes, and in one more that of all
@@ -791,9 +780,9 @@ class Summary(_File, Mapping[Any, Interval]):
         b'a,1\\nothers,2\\n'
         """
         text = records_in(records)
-        words = (*lent(self.to_bytes()), *lent(text), *layout._words())
+        value = Handle.loaded(self.to_bytes())
         with placing(records, text, layout):
-            return answer(calls.heavy_condense_records, *words, guess=SMALL)
+            return value.answer(calls.heavy_condense_records, *lent(text), *layout._words(), guess=SMALL)
 
     def confirm_items(
         self, keys: Keys, weights: Iterable[int] | None = None, threshold: Threshold = None, *, skip_zero: bool = False
@@ -811,8 +800,8 @@ class Summary(_File, Mapping[Any, Interval]):
 
     def _condensed(self, items: Items) -> bytes:
         """Records that confirm the same as items that were checked."""
-        words = (*lent(self.to_bytes()), *lent_items(items.columns, items.weights))
-        return answer(calls.heavy_condense_items_by, *words, ctypes.byref(HashWords(random_words())), guess=SMALL)
+        value = Handle.loaded(self.to_bytes())
+        return value.answer(calls.heavy_condense_items, *lent_items(items.columns, items.weights), guess=SMALL)
 
     def condense_items(self, keys: Keys, weights: Iterable[int] | None = None, *, skip_zero: bool = False) -> bytes:
         """What `condense` gives of items in memory, which are as `update_many` takes them: so a second pass goes over
@@ -839,7 +828,9 @@ class _Rows(NamedTuple):
 
 def _entries(saved: bytes) -> List[Tuple[bytes, int]]:
     """The keys and counters of a saved summary, by rising key."""
-    out, count = given(calls.heavy_entries, *lent(saved), of=Entry, guess=len(saved) // 16 + 1)
+    value = Handle.loaded(saved)
+    out, count = value.given(calls.heavy_entries, of=Entry, guess=len(saved) // 16 + 1)
+    saved = saved if saved[:4] == b"HHS2" else value.saved()  # where the places are
     places = struct.iter_unpack("=QQQ", memoryview(out).cast("B")[: 24 * count])
     return [(saved[start : start + size], counter) for start, size, counter in places]
 
@@ -959,6 +950,18 @@ class Table(_File):
         return made
 
 
+def _merged(files: List[bytes]) -> bytes:
+    """The merge of saved files. A refusal has the number of the file."""
+    value, sizes = Handle.loaded(files[0]), [len(file) for file in files]
+    for index, file in enumerate(files[1:]):
+        try:
+            value.make(calls.heavy_merge_saved, *lent(file))
+        except HeavyError as refused:
+            status, kind, cause, number = refused.numbers
+            raise HeavyError(status, kind, cause, number + index if number else 0) from None
+    return value.saved(guess=max(min(sum(sizes), LARGE), max(sizes)))
+
+
 def merge(first: File | Iterable[File], *others: File) -> File:
     """The merge of saved files of one kind, given one by one or as one iterable of them. The answer is of their kind too,
     and files are numbered from 1 in a refusal.
@@ -976,8 +979,7 @@ def merge(first: File | Iterable[File], *others: File) -> File:
         raise ValueError("there is no file to merge")
     with reading([file._lock for file in listed]):
         files = [file.to_bytes() for file in listed]
-    sizes = [len(file) for file in files]
-    return listed[0]._like(answer(calls.heavy_merge, *joined(files), guess=max(min(sum(sizes), LARGE), max(sizes))))
+    return listed[0]._like(_merged(files))
 
 
 def report(
@@ -1018,7 +1020,7 @@ def _reported(whole: bytes, k: int, share: Tuple[int, int], count: int, layout: 
     """The rows of a report of a text, which so many threads read in parts."""
     parts = parts_of(whole, count, layout)
     if len(parts) == 1:
-        return answer(calls.heavy_report, *lent(whole), *layout._words(), k, *share, guess=SMALL)
+        return answer(calls.heavy_report, *lent(whole), *layout._words(), k, *share, random_words(), guess=SMALL)
     try:
         with ThreadPoolExecutor(len(parts)) as pool:
             summary = merge(pool.map(lambda part: Summary.of_csv(part, k, layout=layout), parts))

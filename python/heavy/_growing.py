@@ -1,25 +1,22 @@
 """A saved file's value in the library's memory, which grows by one item a call."""
 from __future__ import annotations
 
-import weakref
 from ctypes import byref, c_uint64
 
-from ._library import DONE, MAX_KEY, SMALL, Fault, GrowingWords, HashWords, answer, calls, checked, lent, random_words
+from ._library import DONE, MAX_KEY, SMALL, Handle, calls, checked, lent, random_words
 
 _NUMBERS = [c_uint64(number) for number in range(MAX_KEY + 1)]  # made once: to make two takes as long as to add an item
 
 
-class Growing:
+class Growing(Handle):
     """The value of a saved file, whose memory is given back when this object goes. Who makes a call holds the mutex of the file
     that has it, so that no two calls are lent it at once."""
 
     def __init__(self, saved: bytes) -> None:
-        self._fault = Fault()
-        self._words = byref(GrowingWords()), byref(self._fault)
+        super().__init__(calls.heavy_load, *lent(saved), random_words())
+        self._words = self._value, byref(self._fault)
         self._saved: bytes | None = saved  # None where items came since
         self._size = len(saved)
-        weakref.finalize(self, calls.heavy_free, self._words[0])
-        checked(calls.heavy_open_by(*lent(saved), byref(HashWords(random_words())), *self._words), self._fault)
 
     def add(self, key: bytes, weight: int) -> None:
         """Adds an item. After a refusal the value is as it was."""
@@ -31,9 +28,9 @@ class Growing:
         if status != DONE:
             checked(status, self._fault)
 
-    def saved(self) -> bytes:
+    def to_bytes(self) -> bytes:
         """The saved file of the value, which stays."""
         if self._saved is None:
-            self._saved = answer(calls.heavy_save, self._words[0], guess=max(SMALL, 2 * self._size))
+            self._saved = self.saved(guess=max(SMALL, 2 * self._size))
             self._size = len(self._saved)
         return self._saved

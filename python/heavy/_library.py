@@ -3,9 +3,11 @@ from __future__ import annotations
 
 import contextlib
 import ctypes
+import itertools
 import operator
 import os
 import secrets
+import weakref
 from pathlib import Path
 from typing import Any, Callable
 
@@ -46,7 +48,8 @@ class HeavyError(ValueError):
         self.cause = Cause((kind, cause)) if (kind, cause) in _CAUSES else None
         self.number = number
         text = _text_of(Fault(kind, cause, number))
-        super().__init__(text.replace("--header", "header=True").replace("one byte or \\t,", "one byte,"))
+        text = text.replace("with header 1,", "with header=True,").replace("must be no quote", "must be one byte, and no quote")
+        super().__init__(text)
         self.numbers = (status, kind, cause, number)
 
     def __reduce__(self) -> tuple[type[HeavyError], tuple[int, int, int, int], dict[str, Any]]:
@@ -94,7 +97,7 @@ class LayoutWords(ctypes.Structure):
 
     _fields_ = [
         ("delimiter", ctypes.c_uint8), ("header", ctypes.c_uint8), ("allow_zero", ctypes.c_uint8),
-        ("decimals", ctypes.c_uint8), ("has_weight", ctypes.c_uint32), ("hash", ctypes.c_uint64 * 2),
+        ("decimals", ctypes.c_uint8), ("has_weight", ctypes.c_uint32),
     ]
 
 
@@ -104,19 +107,10 @@ class HashWords(ctypes.Structure):
     _fields_ = [("words", ctypes.c_uint64 * 2)]
 
 
-class GrowingWords(ctypes.Structure):
-    """A saved file's value in the library's memory, or none."""
-
-    _fields_ = [("place", ctypes.c_void_p), ("full", ctypes.c_uint64)]
-
-
 class InfoWords(ctypes.Structure):
-    """What is in a saved file."""
+    """What is in a value."""
 
-    _fields_ = [
-        ("kind", ctypes.c_uint32), ("version", ctypes.c_uint32),
-        *((name, ctypes.c_uint64) for name in ("total", "k", "keys", "counters", "slack", "width", "depth")),
-    ]
+    _fields_ = [(name, ctypes.c_uint64) for name in ("kind", "total", "k", "keys", "counters", "slack", "width", "depth")]
 
 
 _READ, _SIZE, _NUMBER, _FAULT = ctypes.c_void_p, ctypes.c_size_t, ctypes.c_uint64, ctypes.POINTER(Fault)
@@ -133,51 +127,41 @@ def _loaded() -> ctypes.CDLL:
     if version() != _VERSION:
         raise ImportError(f"libheavy has interface {version()}, and this module is for {_VERSION}")
     _type_calls(library)
-    _type_calls_on_growing(library)
-    library.heavy_whole_records_by.argtypes, library.heavy_whole_records_by.restype = [_READ, _SIZE, ctypes.c_uint8], _SIZE
+    library.heavy_whole_records.argtypes, library.heavy_whole_records.restype = [_READ, _SIZE, ctypes.c_uint8], _SIZE
+    # To add an item takes less than to wait for other threads, so that call keeps Python's lock, where there is one. Python would
+    # take longer to compare the arguments with their types than to add an item.
+    library.heavy_update = ctypes.PYFUNCTYPE(ctypes.c_uint32)(("heavy_update", library))
+    library.heavy_free = ctypes.PYFUNCTYPE(None, ctypes.c_void_p)(("heavy_free", library))
     return library
 
 
 def _type_calls(library: ctypes.CDLL) -> None:
-    """Gives the calls over bytes their types. Other threads run meanwhile."""
-    items = [_READ, _SIZE, ctypes.POINTER(_NUMBER), _SIZE, ctypes.POINTER(_NUMBER), _SIZE]
-    layout = [ctypes.POINTER(LayoutWords), _READ, _SIZE, ctypes.POINTER(_SIZE), _SIZE]
+    """Gives the calls their types. Other threads run meanwhile. `_lock` keeps two threads from one value."""
+    value, hashed, made = ctypes.c_void_p, ctypes.POINTER(HashWords), ctypes.POINTER(ctypes.c_void_p)
+    keys = [_READ, _SIZE, ctypes.POINTER(_NUMBER), _SIZE]
+    items = [*keys, ctypes.POINTER(_NUMBER), _SIZE]
+    records = [_READ, _SIZE, ctypes.POINTER(LayoutWords), *keys]
     for name, words in {
         "heavy_strerror": [_FAULT, *_OUT[:3]],
-        "heavy_info": [_READ, _SIZE, ctypes.POINTER(InfoWords), _FAULT],
-        "heavy_summarise_records": [_READ, _SIZE, *layout, _NUMBER, *_OUT],
-        "heavy_empty": [_NUMBER, *_OUT],
-        "heavy_add_by": [_READ, _SIZE, *items, ctypes.POINTER(HashWords), *_OUT],
-        "heavy_add_records": [_READ, _SIZE, _READ, _SIZE, *layout, *_OUT],
-        "heavy_empty_table": [_NUMBER, _NUMBER, _NUMBER, *_OUT],
-        "heavy_merge": [_READ, _SIZE, ctypes.POINTER(_SIZE), _SIZE, *_OUT],
-        "heavy_ask": [_READ, _SIZE, _READ, _SIZE, ctypes.POINTER(_NUMBER), ctypes.POINTER(_NUMBER), _FAULT],
-        "heavy_ask_keys": [_READ, _SIZE, _READ, _SIZE, ctypes.POINTER(_SIZE), _SIZE, *_OUT],
-        "heavy_entries": [_READ, _SIZE, *_OUT],
-        "heavy_confirm_records": [_READ, _SIZE, _READ, _SIZE, *layout, _NUMBER, _NUMBER, *_OUT],
-        "heavy_condense_records": [_READ, _SIZE, _READ, _SIZE, *layout, *_OUT],
-        "heavy_report": [_READ, _SIZE, *layout, _NUMBER, _NUMBER, _NUMBER, *_OUT],
-        "heavy_condense_items_by": [_READ, _SIZE, *items, ctypes.POINTER(HashWords), *_OUT],
-        "heavy_list": [_READ, _SIZE, *_OUT],
-        "heavy_describe": [_READ, _SIZE, *_OUT],
+        "heavy_new_summary": [made, _NUMBER, hashed, _FAULT],
+        "heavy_new_table": [made, _NUMBER, _NUMBER, _NUMBER, _FAULT],
+        "heavy_load": [made, _READ, _SIZE, hashed, _FAULT],
+        "heavy_save": [value, *_OUT],
+        "heavy_update_items": [value, *items, _FAULT],
+        "heavy_update_records": [value, *records, _FAULT],
+        "heavy_merge_saved": [value, _READ, _SIZE, _FAULT],
+        "heavy_ask": [value, _READ, _SIZE, ctypes.POINTER(Pair), _FAULT],
+        "heavy_ask_items": [value, *keys, *_OUT],
+        "heavy_info": [value, ctypes.POINTER(InfoWords), _FAULT],
+        "heavy_entries": [value, *_OUT],
+        "heavy_list": [value, *_OUT],
+        "heavy_confirm_records": [value, *records, _NUMBER, _NUMBER, *_OUT],
+        "heavy_condense_records": [value, *records, *_OUT],
+        "heavy_condense_items": [value, *items, *_OUT],
+        "heavy_report": [*records, _NUMBER, _NUMBER, _NUMBER, hashed, *_OUT],
     }.items():
         getattr(library, name).argtypes = words
         getattr(library, name).restype = ctypes.c_uint32
-
-
-def _type_calls_on_growing(library: ctypes.CDLL) -> None:
-    """Gives the calls on a value that grows their types. Other threads run while one is opened or saved. To add an item takes
-    less than to wait for them, so that call keeps Python's lock, where there is one. `_lock` keeps two threads from one value."""
-    growing = ctypes.POINTER(GrowingWords)
-    library.heavy_open_by.argtypes = [_READ, _SIZE, ctypes.POINTER(HashWords), growing, _FAULT]
-    library.heavy_save.argtypes = [growing, *_OUT]
-    library.heavy_open_by.restype = library.heavy_save.restype = ctypes.c_uint32
-    words: dict[str, list[Any]] = {
-        "heavy_update": [],  # Python would take longer to compare the arguments with their types than to add an item
-        "heavy_free": [growing],
-    }
-    for name, kinds in words.items():
-        setattr(library, name, ctypes.PYFUNCTYPE(ctypes.c_uint32, *kinds)((name, library)))
 
 
 calls = _loaded()
@@ -217,20 +201,20 @@ def word(name: str, number: Any) -> int:
     return held if 0 <= held < 2**64 else 2**64 - 1
 
 
-def random_words() -> tuple[int, int]:
-    """Words by which a call hashes keys, so that nobody can choose keys that collide. No answer depends on them."""
-    return secrets.randbits(64) | 1, secrets.randbits(64)
+def random_words() -> Any:
+    """Words by which keys are hashed, so that nobody can choose keys that collide. No answer depends on them."""
+    return ctypes.byref(HashWords((secrets.randbits(64) | 1, secrets.randbits(64))))
 
 
 def lent(held: bytes | ctypes.Array[ctypes.c_char]) -> tuple[ctypes.c_void_p, int]:
-    """A pointer, never null, and a length."""
+    """A pointer and a length."""
     return ctypes.cast(ctypes.c_char_p(held) if isinstance(held, bytes) else held, ctypes.c_void_p), len(held)
 
 
-def joined(parts: list[bytes]) -> tuple[ctypes.c_void_p, int, ctypes.Array[ctypes.c_size_t], int]:
-    """Parts as one slice, and their lengths as another, neither of them null."""
-    lengths = (ctypes.c_size_t * max(len(parts), 1))(*map(len, parts))
-    return *lent(b"".join(parts)), lengths, len(parts)
+def joined(parts: list[bytes]) -> tuple[ctypes.c_void_p, int, ctypes.Array[ctypes.c_uint64], int]:
+    """Parts as one slice, and where they end in it as another."""
+    ends = (ctypes.c_uint64 * len(parts))(*itertools.accumulate(map(len, parts)))
+    return *lent(b"".join(parts)), ends, len(parts)
 
 
 def checked(status: int, fault: Fault) -> None:
@@ -255,3 +239,41 @@ def answer(call: Callable[..., int], *words: object, guess: int) -> bytes:
     """The bytes that a call gives."""
     out, size = given(call, *words, of=ctypes.c_char, guess=guess)
     return ctypes.string_at(out, size)
+
+
+class Handle:
+    """A summary or a table in the library's memory, which is given back when this object goes. Who makes a call keeps others
+    from it."""
+
+    def __init__(self, make: Callable[..., int], *words: object) -> None:
+        self._fault = Fault()
+        self._value = ctypes.c_void_p()
+        checked(make(ctypes.byref(self._value), *words, ctypes.byref(self._fault)), self._fault)
+        weakref.finalize(self, calls.heavy_free, self._value)
+
+    @classmethod
+    def loaded(cls, saved: bytes) -> Handle:
+        """The value of a saved file."""
+        return cls(calls.heavy_load, *lent(saved), random_words())
+
+    def make(self, call: Callable[..., int], *words: object) -> None:
+        """Makes a call that answers by its status alone, or by what it is lent."""
+        checked(call(self._value, *words, ctypes.byref(self._fault)), self._fault)
+
+    def given(self, call: Callable[..., int], *words: object, of: Any, guess: int) -> tuple[Any, int]:
+        """An array, and how much of it a call fills."""
+        return given(call, self._value, *words, of=of, guess=guess)
+
+    def answer(self, call: Callable[..., int], *words: object, guess: int) -> bytes:
+        """The bytes that a call gives."""
+        return answer(call, self._value, *words, guess=guess)
+
+    def info(self) -> InfoWords:
+        """What is in the value."""
+        words = InfoWords()
+        self.make(calls.heavy_info, ctypes.byref(words))
+        return words
+
+    def saved(self, guess: int = SMALL) -> bytes:
+        """The saved file of the value."""
+        return self.answer(calls.heavy_save, guess=guess)

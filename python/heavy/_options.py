@@ -13,7 +13,7 @@ from fractions import Fraction
 from typing import Any, Optional, Sequence, SupportsFloat, Tuple, Union
 
 from ._library import BAD_DELIMITER, BAD_THRESHOLD, USAGE, HeavyError, LayoutWords, flag, integer, is_flag, joined
-from ._library import random_words, word
+from ._library import word
 
 Threshold = Union[None, str, Fraction, Decimal, float, SupportsFloat, Tuple[int, int]]
 Column = Union[int, str, bytes]
@@ -158,10 +158,8 @@ class Layout:
         return [_column("key", it) for it in listed] + ([] if self.weight is None else [_column("weight", self.weight)])
 
     def _words(self) -> tuple[Any, ...]:
-        """The layout as a call takes it, with random words by which it hashes keys."""
-        layout = LayoutWords(
-            self._separator[0], self.header, self.allow_zero, self.decimals, self.weight is not None, random_words()
-        )
+        """The layout as a call takes it."""
+        layout = LayoutWords(self._separator[0], self.header, self.allow_zero, self.decimals, self.weight is not None)
         return ctypes.byref(layout), *joined(self._columns)
 
     def _records_of(self, part: bytes) -> list[bytes]:

@@ -10,7 +10,7 @@ from typing import Any, BinaryIO, Callable, Iterator, NamedTuple, NoReturn, Unio
 
 from . import _columns
 from ._faults import Kind
-from ._library import BAD_RECORD, SMALL, HeavyError, answer, calls, lent, say
+from ._library import BAD_RECORD, SMALL, Handle, HeavyError, calls, lent, say
 from ._options import Layout, lines_in
 
 Given = Union[bytes, bytearray, memoryview, BinaryIO]
@@ -99,7 +99,7 @@ def is_file(records: Records) -> bool:
 
 def whole_records(text: bytes, layout: Layout) -> int:
     """How many bytes of a part of a text are whole records, behind which the text may be cut before a line feed."""
-    return int(calls.heavy_whole_records_by(*lent(text), layout._separator[0]))
+    return int(calls.heavy_whole_records(*lent(text), layout._separator[0]))
 
 
 def parts_read(records: Records, layout: Layout) -> Iterator[bytes]:
@@ -138,25 +138,27 @@ def parts_of(text: bytes, count: int, layout: Layout) -> list[bytes]:
 
 def with_text(saved: bytes, text: bytes, layout: Layout) -> bytes:
     """A saved file with the records of a text added."""
-    return answer(calls.heavy_add_records, *lent(saved), *lent(text), *layout._words(), guess=len(saved) + SMALL)
+    value = Handle.loaded(saved)
+    value.make(calls.heavy_update_records, *lent(text), *layout._words())
+    return value.saved(guess=len(saved) + SMALL)
 
 
-def with_records(saved: bytes, records: Records, layout: Layout, begun: Callable[[bytes], bytes] | None) -> bytes:
-    """A saved file with records added, or the refusal of the first bad one, by its number among all. Where the file has no
-    items, `begun` makes it of the first part at once."""
-    before, lines, header, last = 0, 0, b"", b""
+def with_records(saved: bytes, records: Records, layout: Layout) -> bytes:
+    """A saved file with records added, or the refusal of the first bad one, by its number among all."""
+    before, lines, header, last, value = 0, 0, b"", b"", None
     for part in parts_read(records, layout):
+        value = value or Handle.loaded(saved)
         lines -= last == b"\r" and part[:1] == b"\n"  # one line's end, in two parts
         text = header + part
         try:
-            saved, begun = with_text(saved, text, layout) if begun is None else begun(text), None
+            value.make(calls.heavy_update_records, *lent(text), *layout._words())
         except HeavyError as refused:
-            told = refused if begun is not None else _among_all(saved, text, before, refused, layout)
+            told = _among_all(value.saved(), text, before, refused, layout) if value.info().total else refused
             raise placed(told, records, part, layout, before, lines, not header) from None
         header = header or layout._header_of(part)
         before += layout._count(text) - (1 if header else 0)
         lines, last = lines + lines_in(part), part[-1:]
-    return saved
+    return value.saved(guess=len(saved) + SMALL) if value else saved
 
 
 def placed(

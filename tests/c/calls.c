@@ -3,6 +3,7 @@
 #include <pthread.h>
 
 #include "checks.h"
+#include "files.h"
 
 struct answer {
     uint32_t status;
@@ -20,10 +21,10 @@ static struct answer room_of(size_t size) {
     return a;
 }
 
-static struct answer summarise(const char *text, uint64_t k, uint32_t method, size_t room) {
+static struct answer summarise(const char *text, uint64_t k, size_t room) {
     struct answer a = room_of(room);
     uint8_t *lent = block(text, strlen(text));
-    a.status = heavy_summarise(lent, strlen(text), k, method, a.room, room, &a.needed, &a.told);
+    a.status = file_of_text(lent, strlen(text), k, a.room, room, &a.needed, &a.told);
     free(lent);
     return a;
 }
@@ -31,7 +32,7 @@ static struct answer summarise(const char *text, uint64_t k, uint32_t method, si
 static struct answer table(const char *text, uint64_t width, uint64_t depth, size_t room) {
     struct answer a = room_of(room);
     uint8_t *lent = block(text, strlen(text));
-    a.status = heavy_table(lent, strlen(text), width, depth, 0, a.room, room, &a.needed, &a.told);
+    a.status = table_of_text(lent, strlen(text), width, depth, 0, a.room, room, &a.needed, &a.told);
     free(lent);
     return a;
 }
@@ -39,7 +40,7 @@ static struct answer table(const char *text, uint64_t width, uint64_t depth, siz
 static struct answer merge(const void *files, size_t size, const size_t *lengths, size_t count, size_t room) {
     struct answer a = room_of(room);
     uint8_t *lent = block(files, size);
-    a.status = heavy_merge(lent, size, lengths, count, a.room, room, &a.needed, &a.told);
+    a.status = merge_of(lent, size, lengths, count, a.room, room, &a.needed, &a.told);
     free(lent);
     return a;
 }
@@ -47,7 +48,8 @@ static struct answer merge(const void *files, size_t size, const size_t *lengths
 static struct answer confirm(const struct answer *file, const char *text, size_t room) {
     struct answer a = room_of(room);
     uint8_t *lent = block(text, strlen(text));
-    a.status = heavy_confirm(file->room, file->needed, lent, strlen(text), a.room, room, &a.needed, &a.told);
+    a.status = confirm_records_by(file->room, file->needed, lent, strlen(text), &RECORDS, NULL, 0, NULL, 0, 0, 0, a.room, room,
+                                  &a.needed, &a.told);
     free(lent);
     return a;
 }
@@ -55,7 +57,7 @@ static struct answer confirm(const struct answer *file, const char *text, size_t
 static struct answer condense(const void *file, size_t size, const char *text, size_t room) {
     struct answer a = room_of(room);
     uint8_t *lent = block(text, strlen(text)), *held = block(file, size);
-    a.status = heavy_condense(held, size, lent, strlen(text), a.room, room, &a.needed, &a.told);
+    a.status = condense_records_by(held, size, lent, strlen(text), &RECORDS, NULL, 0, NULL, 0, a.room, room, &a.needed, &a.told);
     free(held);
     free(lent);
     return a;
@@ -66,7 +68,7 @@ static struct answer ask_keys(const void *file, size_t size, const char *keys, c
                               size_t room) {
     struct answer a = room_of(room * sizeof(struct heavy_bounds));
     uint8_t *lent = block(keys, strlen(keys)), *held = block(file, size);
-    a.status = heavy_ask_keys(held, size, lent, strlen(keys), lengths, count, (struct heavy_bounds *)a.room, room,
+    a.status = ask_file_keys(held, size, lent, strlen(keys), lengths, count, (struct heavy_bounds *)a.room, room,
                               &a.needed, &a.told);
     free(held);
     free(lent);
@@ -76,7 +78,7 @@ static struct answer ask_keys(const void *file, size_t size, const char *keys, c
 static struct answer entries(const void *file, size_t size, size_t room) {
     struct answer a = room_of(room * sizeof(struct heavy_entry));
     uint8_t *held = block(file, size);
-    a.status = heavy_entries(held, size, (struct heavy_entry *)a.room, room, &a.needed, &a.told);
+    a.status = entries_of_file(held, size, (struct heavy_entry *)a.room, room, &a.needed, &a.told);
     free(held);
     return a;
 }
@@ -84,15 +86,7 @@ static struct answer entries(const void *file, size_t size, size_t room) {
 static struct answer list(const void *file, size_t size, size_t room) {
     struct answer a = room_of(room);
     uint8_t *held = block(file, size);
-    a.status = heavy_list(held, size, a.room, room, &a.needed, &a.told);
-    free(held);
-    return a;
-}
-
-static struct answer describe(const void *file, size_t size, size_t room) {
-    struct answer a = room_of(room);
-    uint8_t *held = block(file, size);
-    a.status = heavy_describe(held, size, a.room, room, &a.needed, &a.told);
+    a.status = list_file(held, size, a.room, room, &a.needed, &a.told);
     free(held);
     return a;
 }
@@ -101,7 +95,8 @@ static struct answer confirm_above(const void *file, size_t size, const char *te
                                    size_t room) {
     struct answer a = room_of(room);
     uint8_t *lent = block(text, strlen(text)), *held = block(file, size);
-    a.status = heavy_confirm_above(held, size, lent, strlen(text), p, q, a.room, room, &a.needed, &a.told);
+    a.status = confirm_records_by(held, size, lent, strlen(text), &RECORDS, NULL, 0, NULL, 0, p, q, a.room, room, &a.needed,
+                                  &a.told);
     free(held);
     free(lent);
     return a;
@@ -109,64 +104,58 @@ static struct answer confirm_above(const void *file, size_t size, const char *te
 
 static struct answer empty(uint64_t k, size_t room) {
     struct answer a = room_of(room);
-    a.status = heavy_empty(k, a.room, room, &a.needed, &a.told);
+    struct heavy *value = NULL;
+    uint32_t status = heavy_new_summary(&value, k, &FIXED, &a.told);
+    a.status = saved(value, status, a.room, room, &a.needed, &a.told);
     return a;
 }
 
 /* Which call takes the items, and its share where it has one. */
 enum items_call { ADD, CONDENSE, CONFIRM, CONFIRM_ABOVE };
 
+/* The weights may be none. */
+static struct answer of_items_by(const struct heavy_hash *hash, enum items_call call, const void *file, size_t size,
+                                 const char *keys, const uint64_t *ends, size_t count, const uint64_t *weights, size_t weighed,
+                                 const uint64_t *share, size_t room) {
+    struct answer a = room_of(room);
+    struct heavy *value = NULL;
+    uint8_t *lent = block(keys, strlen(keys)), *held = block(file, size);
+    uint64_t *places = (uint64_t *)block(ends, count * sizeof *ends);
+    uint64_t *numbers = (uint64_t *)block(weights, weighed * sizeof *weights);
+    const uint64_t p = call == CONFIRM_ABOVE ? share[0] : 0, q = call == CONFIRM_ABOVE ? share[1] : 0;
+    size_t len = strlen(keys);
+    a.needed = 0;
+    a.status = heavy_load(&value, held, size, hash, &a.told);
+    if (a.status != HEAVY_DONE) {
+    } else if (call == ADD) {
+        a.status = heavy_update_items(value, lent, len, places, count, numbers, weighed, &a.told);
+        a.status = a.status ? a.status : heavy_save(value, a.room, room, &a.needed, &a.told);
+    } else if (call == CONDENSE) {
+        a.status = heavy_condense_items(value, lent, len, places, count, numbers, weighed, a.room, room, &a.needed, &a.told);
+    } else {
+        a.status = heavy_confirm_items(value, lent, len, places, count, numbers, weighed, p, q, a.room, room, &a.needed, &a.told);
+    }
+    heavy_free(value);
+    free(held);
+    free(lent);
+    free(places);
+    free(numbers);
+    return a;
+}
+
 static int is_same(const struct answer *a, const struct answer *b, size_t room) {
     return a->status == b->status && a->needed == b->needed && memcmp(&a->told, &b->told, sizeof a->told) == 0
         && memcmp(a->room, b->room, room) == 0;
 }
 
-/* Whether the call that takes words of a hash gives the same answer by these. */
-static int is_same_by(uint64_t first, uint64_t second, const struct answer *a, enum items_call call, const uint8_t *file,
-                      size_t size, const uint8_t *keys, size_t keys_len, const uint64_t *ends, size_t count,
-                      const uint64_t *weights, size_t weighed, const uint64_t *share, size_t room) {
-    const struct heavy_hash hash = {{first, second}};
-    const uint64_t p = call == CONFIRM_ABOVE ? share[0] : 0, q = call == CONFIRM_ABOVE ? share[1] : 0;
-    struct answer b = room_of(room);
-    if (call == ADD)
-        b.status = heavy_add_by(file, size, keys, keys_len, ends, count, weights, weighed, &hash, b.room, room, &b.needed,
-                                &b.told);
-    else if (call == CONDENSE)
-        b.status = heavy_condense_items_by(file, size, keys, keys_len, ends, count, weights, weighed, &hash, b.room, room,
-                                           &b.needed, &b.told);
-    else
-        b.status = heavy_confirm_items_by(file, size, keys, keys_len, ends, count, weights, weighed, p, q, &hash, b.room, room,
-                                          &b.needed, &b.told);
-    int same = is_same(a, &b, room);
-    free(b.room);
-    return same;
-}
-
-/* The weights may be none. */
+/* The answer, which words of a hash leave as it is. */
 static struct answer of_items(enum items_call call, const void *file, size_t size, const char *keys, const uint64_t *ends,
                               size_t count, const uint64_t *weights, size_t weighed, const uint64_t *share, size_t room) {
-    struct answer a = room_of(room);
-    uint8_t *lent = block(keys, strlen(keys)), *held = block(file, size);
-    uint64_t *places = (uint64_t *)block(ends, count * sizeof *ends);
-    uint64_t *numbers = (uint64_t *)block(weights, weighed * sizeof *weights);
-    if (call == ADD)
-        a.status = heavy_add(held, size, lent, strlen(keys), places, count, numbers, weighed, a.room, room, &a.needed, &a.told);
-    else if (call == CONDENSE)
-        a.status = heavy_condense_items(held, size, lent, strlen(keys), places, count, numbers, weighed, a.room, room,
-                                        &a.needed, &a.told);
-    else if (call == CONFIRM)
-        a.status = heavy_confirm_items(held, size, lent, strlen(keys), places, count, numbers, weighed, a.room, room,
-                                       &a.needed, &a.told);
-    else
-        a.status = heavy_confirm_items_above(held, size, lent, strlen(keys), places, count, numbers, weighed, share[0],
-                                             share[1], a.room, room, &a.needed, &a.told);
-    check("the same by words of a hash",
-          is_same_by(0, 0, &a, call, held, size, lent, strlen(keys), places, count, numbers, weighed, share, room)
-          && is_same_by(5, 9, &a, call, held, size, lent, strlen(keys), places, count, numbers, weighed, share, room));
-    free(held);
-    free(lent);
-    free(places);
-    free(numbers);
+    static const struct heavy_hash DRAWN = {{5, 9}};
+    struct answer a = of_items_by(&FIXED, call, file, size, keys, ends, count, weights, weighed, share, room);
+    struct answer b = of_items_by(&DRAWN, call, file, size, keys, ends, count, weights, weighed, share, room);
+    check("the same by words of a hash", is_same(&a, &b, room));
+    free(b.room);
     return a;
 }
 
@@ -191,34 +180,31 @@ static int small(const struct answer *a, size_t size) {
 }
 
 static void try_summaries(void) {
-    for (uint32_t method = HEAVY_MISRA_GRIES; method <= HEAVY_SPACE_SAVING; method++) {
-        struct answer a = summarise("a,5\nb,3\n", 2, method, sizeof ONE - 1);
-        check("a summary in a room of its size", gave(&a, BYTES(ONE)));
-        free(a.room);
-        a = summarise("a,5\nb,3\n", 2, method, sizeof ONE - 2);
-        check("a summary in a room that is a byte too small", small(&a, sizeof ONE - 1));
-        free(a.room);
-        a = summarise("", 2, method, 0);
-        check("no records, and no room", small(&a, 17));
-        free(a.room);
-    }
+    struct answer a = summarise("a,5\nb,3\n", 2, sizeof ONE - 1);
+    check("a summary in a room of its size", gave(&a, BYTES(ONE)));
+    free(a.room);
+    a = summarise("a,5\nb,3\n", 2, sizeof ONE - 2);
+    check("a summary in a room that is a byte too small", small(&a, sizeof ONE - 1));
+    free(a.room);
+    a = summarise("", 2, 0);
+    check("no records, and no room", small(&a, 17));
+    free(a.room);
     struct {
         const char *text;
         uint64_t k;
-        uint32_t method, status, kind, cause;
+        uint32_t status, kind, cause;
         uint64_t number;
     } rows[] = {
-        {"a,0\n", 0, 3, HEAVY_USAGE, HEAVY_BAD_METHOD, 0, 0},
-        {"a,0\n", 0, 1, HEAVY_USAGE, HEAVY_BAD_K, 0, 0},
-        {"a,0\n", 65536, 1, HEAVY_USAGE, HEAVY_BAD_K, 0, 0},
-        {"b\na,0\n", 2, 1, HEAVY_REFUSED, HEAVY_BAD_RECORD, HEAVY_RECORD_ZERO_WEIGHT, 2},
-        {"a,1,2\n", 2, 2, HEAVY_REFUSED, HEAVY_BAD_RECORD, HEAVY_RECORD_FIELD_COUNT, 1},
-        {",1\n", 2, 2, HEAVY_REFUSED, HEAVY_BAD_RECORD, HEAVY_RECORD_EMPTY_KEY, 1},
-        {"a,x\n", 2, 2, HEAVY_REFUSED, HEAVY_BAD_RECORD, HEAVY_RECORD_BAD_WEIGHT, 1},
-        {"a,9223372036854775807\nb\n", 2, 1, HEAVY_REFUSED, HEAVY_BAD_RECORD, HEAVY_RECORD_TOTAL_TOO_LARGE, 2},
+        {"a,0\n", 0, HEAVY_USAGE, HEAVY_BAD_K, 0, 0},
+        {"a,0\n", 65536, HEAVY_USAGE, HEAVY_BAD_K, 0, 0},
+        {"b\na,0\n", 2, HEAVY_REFUSED, HEAVY_BAD_RECORD, HEAVY_RECORD_ZERO_WEIGHT, 2},
+        {"a,1,2\n", 2, HEAVY_REFUSED, HEAVY_BAD_RECORD, HEAVY_RECORD_FIELD_COUNT, 1},
+        {",1\n", 2, HEAVY_REFUSED, HEAVY_BAD_RECORD, HEAVY_RECORD_EMPTY_KEY, 1},
+        {"a,x\n", 2, HEAVY_REFUSED, HEAVY_BAD_RECORD, HEAVY_RECORD_BAD_WEIGHT, 1},
+        {"a,9223372036854775807\nb\n", 2, HEAVY_REFUSED, HEAVY_BAD_RECORD, HEAVY_RECORD_TOTAL_TOO_LARGE, 2},
     };
     for (size_t i = 0; i < sizeof rows / sizeof *rows; i++) {
-        struct answer a = summarise(rows[i].text, rows[i].k, rows[i].method, 64);
+        struct answer a = summarise(rows[i].text, rows[i].k, 64);
         check(rows[i].text, told(&a, rows[i].status, rows[i].kind, rows[i].cause, rows[i].number));
         free(a.room);
     }
@@ -238,9 +224,6 @@ static void try_merges(void) {
     a = merge(files, both, lengths, 2, 1);
     check("two summaries in a small room", small(&a, sizeof BOTH - 1));
     free(a.room);
-    a = merge(files, both, lengths, 0, 64);
-    check("no files", told(&a, HEAVY_USAGE, 0, 0, 0));
-    free(a.room);
     a = merge(files, both - 1, lengths, 2, 64);
     check("bytes that end before the lengths", told(&a, HEAVY_REFUSED, HEAVY_BAD_FILE, HEAVY_FILE_TRUNCATED, 2));
     free(a.room);
@@ -248,7 +231,7 @@ static void try_merges(void) {
     a = merge(files, both, huge, 2, sizeof BOTH - 1);
     check("a length above all that is left", gave(&a, BYTES(BOTH)));
     free(a.room);
-    struct answer other = summarise("a\n", 3, 1, 64);
+    struct answer other = summarise("a\n", 3, 64);
     memcpy(files, other.room, other.needed);
     memcpy(files + other.needed, ONE, sizeof ONE - 1);
     size_t mixed[] = {other.needed, sizeof ONE - 1};
@@ -263,7 +246,7 @@ static void try_tables(void) {
     check("a table of one cell", a.status == HEAVY_DONE && a.needed == 4 + 1 + 4 + 1 + 8 + 16 + 8 + 8);
     uint64_t low = 77, high = 77;
     struct heavy_fault told_of = {77, 77, 77};
-    uint32_t status = heavy_ask(a.room, a.needed, (const uint8_t *)"z", 1, &low, &high, &told_of);
+    uint32_t status = ask_file(a.room, a.needed, (const uint8_t *)"z", 1, &low, &high, &told_of);
     check("its one cell", status == HEAVY_DONE && low == 0 && high == 5 && told_of.kind == 0);
     struct answer b = confirm(&a, "a,5\n", 64);
     check("a table isn't confirmed", told(&b, HEAVY_REFUSED, HEAVY_NOT_COUNTERS, 0, 0));
@@ -278,17 +261,17 @@ static void try_tables(void) {
 }
 
 static void try_keys(void) {
-    struct answer file = summarise("a,5\nb,3\nc,2\na,1\n", 2, 1, 64);
+    struct answer file = summarise("a,5\nb,3\nc,2\na,1\n", 2, 64);
     uint64_t low = 77, high = 77;
     struct heavy_fault fault = {77, 77, 77};
     /* 2 is taken from each of three counters at c: a 3 + 1, b 1, and of the total of 11 at most 2 for each */
-    uint32_t status = heavy_ask(file.room, file.needed, (const uint8_t *)"a", 1, &low, &high, &fault);
+    uint32_t status = ask_file(file.room, file.needed, (const uint8_t *)"a", 1, &low, &high, &fault);
     check("a key with a counter", status == HEAVY_DONE && low == 4 && high == 6 && fault.kind == 0);
     low = high = 77;
-    status = heavy_ask(file.room, file.needed, (const uint8_t *)"a", 0, &low, &high, &fault);
+    status = ask_file(file.room, file.needed, (const uint8_t *)"a", 0, &low, &high, &fault);
     check("a key of no bytes", status == HEAVY_REFUSED && fault.kind == HEAVY_BAD_KEY && fault.cause == HEAVY_KEY_EMPTY
           && fault.number == 1 && low == 77 && high == 77);
-    status = heavy_ask(file.room, 0, (const uint8_t *)"a", 0, &low, &high, &fault);
+    status = ask_file(file.room, 0, (const uint8_t *)"a", 0, &low, &high, &fault);
     check("the file comes first", status == HEAVY_REFUSED && fault.kind == HEAVY_BAD_FILE
           && fault.cause == HEAVY_FILE_TRUNCATED && fault.number == 1);
     struct answer rows = confirm(&file, "a,5\nb,3\nc,2\na,1\n", 4);
@@ -306,7 +289,7 @@ static int is_bounds(const struct answer *a, size_t i, uint64_t low, uint64_t hi
 }
 
 static void try_many_keys(void) {
-    struct answer file = summarise("a,5\nb,3\nc,2\na,1\n", 2, 1, 64);
+    struct answer file = summarise("a,5\nb,3\nc,2\na,1\n", 2, 64);
     size_t lengths[] = {1, 2, 1, 1};
     /* the counters are as in try_keys, and no other key weighs more than 2 */
     struct answer a = ask_keys(file.room, file.needed, "bnoaz", lengths, 4, 4);
@@ -359,13 +342,14 @@ static void try_entries(void) {
     a = entries(BYTES(BOTH), 1);
     check("entries in a small room", small(&a, 2));
     free(a.room);
-    /* version 1, in which a key's length has one byte: k 2, a total of 9, b 3 and cd 5 */
+    /* version 1, in which a key's length has one byte: k 2, a total of 9, b 3 and cd 5; and what is saved of it */
     static const char FIRST[] = "HHS1\1\0\2\0\0\0\0\0\0\0\11\0\2\1b\0\0\0\0\0\0\0\3\2cd\0\0\0\0\0\0\0\5";
+    static const char SAVED[] = "HHS2\1\0\2\0\0\0\0\0\0\0\11\0\2\0\1b\0\0\0\0\0\0\0\3\0\2cd\0\0\0\0\0\0\0\5";
     a = entries(BYTES(FIRST), 2);
-    check("entries of version 1", a.status == HEAVY_DONE && a.needed == 2 && is_entry(&a, 0, FIRST, "b", 3)
-          && is_entry(&a, 1, FIRST, "cd", 5));
+    check("entries of version 1", a.status == HEAVY_DONE && a.needed == 2 && is_entry(&a, 0, SAVED, "b", 3)
+          && is_entry(&a, 1, SAVED, "cd", 5));
     free(a.room);
-    struct answer file = summarise("", 2, 1, 17);
+    struct answer file = summarise("", 2, 17);
     a = entries(file.room, file.needed, 0);
     check("no entries", a.status == HEAVY_DONE && a.needed == 0);
     free(a.room);
@@ -410,19 +394,7 @@ static void try_lists(void) {
     a = list(BYTES(BOTH) - 1, 64);
     check("no list of a damaged file", told(&a, HEAVY_REFUSED, HEAVY_BAD_FILE, HEAVY_FILE_TRUNCATED, 1));
     free(a.room);
-    a = describe(BYTES(BOTH), 71);
-    check("a description", gave(&a, BYTES("version,2\nkind,summary\nk,2\nkeys,2\ntotal,14\ncounters,5\nslack,3\n")));
-    free(a.room);
-    a = describe(BYTES(BOTH), 1);
-    check("a description in a small room", a.status == HEAVY_TOO_SMALL && a.room[0] == 0xAA);
-    free(a.room);
-    a = describe("HHS3", 4, 64);
-    check("no description of another file", told(&a, HEAVY_REFUSED, HEAVY_BAD_FILE, HEAVY_FILE_BAD_MAGIC, 1));
-    free(a.room);
     struct answer file = table("a,5\n", 3, 1, 128);
-    a = describe(file.room, file.needed, 64);
-    check("a table's description", gave(&a, BYTES("version,2\nkind,table\ndepth,1\nwidth,3\ntotal,5\n")));
-    free(a.room);
     a = list(file.room, file.needed, 64);
     check("no list of a table", told(&a, HEAVY_REFUSED, HEAVY_NOT_COUNTERS, 0, 0));
     free(a.room);
@@ -456,7 +428,7 @@ static void try_thresholds(void) {
 
 static void try_items(void) {
     struct answer none = empty(2, 17);
-    check("no items", none.status == HEAVY_DONE && none.needed == 17 && HEAVY_SUMMARY_ROOM(0, 0) == 17);
+    check("no items", none.status == HEAVY_DONE && none.needed == 17 && heavy_summary_room(0, 0) == 17);
     struct answer a = empty(2, 16);
     check("no items in a small room", small(&a, 17));
     free(a.room);
@@ -475,7 +447,7 @@ static void try_items(void) {
     free(a.room);
     /* a 5, b 3 and c 2 are three keys; 2 is taken from each; and then a comes again: a 4, b 1 */
     a = add(BYTES(ONE), "cca", ENDS, 3, NULL, 0, 64);
-    struct answer b = summarise("a,5\nb,3\nc\nc\na\n", 2, 1, 64);
+    struct answer b = summarise("a,5\nb,3\nc\nc\na\n", 2, 64);
     check("items of weight 1 behind a stream", a.status == HEAVY_DONE && gave(&b, a.room, a.needed));
     free(b.room);
     b = list(a.room, a.needed, 12);
@@ -507,9 +479,6 @@ static void try_items(void) {
         check("items that are refused", told(&a, rows[i].status, rows[i].kind, rows[i].cause, rows[i].number));
         free(a.room);
     }
-    a = add(none.room, 16, "ab", FALLS, 2, FIVE, 2, 64);
-    check("the ends before the file", told(&a, HEAVY_USAGE, HEAVY_BAD_END, 0, 2));
-    free(a.room);
     a = add(none.room, 16, "ab", GAPS, 2, FIVE, 2, 64);
     check("the file before the items", told(&a, HEAVY_REFUSED, HEAVY_BAD_FILE, HEAVY_FILE_TRUNCATED, 1));
     free(a.room);
@@ -518,14 +487,16 @@ static void try_items(void) {
 
 static struct answer empty_table(uint64_t width, uint64_t depth, uint64_t seed, size_t room) {
     struct answer a = room_of(room);
-    a.status = heavy_empty_table(width, depth, seed, a.room, room, &a.needed, &a.told);
+    struct heavy *value = NULL;
+    uint32_t status = heavy_new_table(&value, width, depth, seed, &a.told);
+    a.status = saved(value, status, a.room, room, &a.needed, &a.told);
     return a;
 }
 
 static struct answer add_text(const void *file, size_t size, const char *text, size_t room) {
     struct answer a = room_of(room);
     uint8_t *lent = block(text, strlen(text)), *held = block(file, size);
-    a.status = heavy_add_text(held, size, lent, strlen(text), a.room, room, &a.needed, &a.told);
+    a.status = file_with_records(held, size, lent, strlen(text), &RECORDS, NULL, 0, NULL, 0, a.room, room, &a.needed, &a.told);
     free(held);
     free(lent);
     return a;
@@ -533,7 +504,7 @@ static struct answer add_text(const void *file, size_t size, const char *text, s
 
 static size_t whole(const char *text) {
     uint8_t *lent = block(text, strlen(text));
-    size_t bytes = heavy_whole_records(lent, strlen(text));
+    size_t bytes = heavy_whole_records(lent, strlen(text), ',');
     free(lent);
     return bytes;
 }
@@ -554,7 +525,7 @@ static void try_whole_records(void) {
 
 static void try_added_texts(void) {
     /* b 3 and then a 2 are added to a 3 alone */
-    struct answer part = summarise("a,3\n", 2, 1, 64), a = add_text(part.room, part.needed, "b,3\na,2\n", sizeof ONE - 1);
+    struct answer part = summarise("a,3\n", 2, 64), a = add_text(part.room, part.needed, "b,3\na,2\n", sizeof ONE - 1);
     check("a text added", gave(&a, BYTES(ONE)));
     free(a.room);
     a = add_text(part.room, part.needed, "b,3\na,2\n", sizeof ONE - 2);
@@ -631,8 +602,8 @@ static void try_long_items(void) {
     memset(longest, 'x', 4097);
     longest[4097] = 0;
     static const uint64_t MOST[] = {4096, 4097}, MORE[] = {4097};
-    struct answer a = add(none.room, 17, longest, MOST, 1, NULL, 0, HEAVY_SUMMARY_ROOM(1, HEAVY_MAX_KEY));
-    check("an item of the longest key", a.status == HEAVY_DONE && a.needed == HEAVY_SUMMARY_ROOM(1, HEAVY_MAX_KEY));
+    struct answer a = add(none.room, 17, longest, MOST, 1, NULL, 0, heavy_summary_room(1, HEAVY_MAX_KEY));
+    check("an item of the longest key", a.status == HEAVY_DONE && a.needed == heavy_summary_room(1, HEAVY_MAX_KEY));
     free(a.room);
     a = add(none.room, 17, longest, MORE, 1, NULL, 0, 64);
     check("an item of a longer key", told(&a, HEAVY_REFUSED, HEAVY_BAD_RECORD, HEAVY_RECORD_KEY_TOO_LONG, 1));
@@ -709,10 +680,7 @@ static void try_refused_items(void) {
             check("counted items that are refused", told(&a, rows[i].status, rows[i].kind, rows[i].cause, rows[i].number));
             free(a.room);
         }
-        struct answer a = of_items(call, BYTES(ONE) - 1, "ab", FALLS, 2, FIVE, 2, THIRD, 64);
-        check("the ends before the file, counted", told(&a, HEAVY_USAGE, HEAVY_BAD_END, 0, 2));
-        free(a.room);
-        a = of_items(call, BYTES(ONE) - 1, "ab", GAPS, 2, FIVE, 2, THIRD, 64);
+        struct answer a = of_items(call, BYTES(ONE) - 1, "ab", GAPS, 2, FIVE, 2, THIRD, 64);
         check("the file before the items, counted", told(&a, HEAVY_REFUSED, HEAVY_BAD_FILE, HEAVY_FILE_TRUNCATED, 1));
         free(a.room);
         a = of_items(call, cells.room, cells.needed, "ab", GAPS, 2, FIVE, 2, THIRD, 64);
@@ -724,8 +692,8 @@ static void try_refused_items(void) {
 
 /* The most that the header says is needed is needed, and no more. */
 static void try_rooms(void) {
-    struct answer a = summarise("ab\ncd\nef\n", 3, 1, HEAVY_SUMMARY_ROOM(3, 2));
-    check("a full summary of keys of two bytes", a.status == HEAVY_DONE && a.needed == HEAVY_SUMMARY_ROOM(3, 2));
+    struct answer a = summarise("ab\ncd\nef\n", 3, heavy_summary_room(3, 2));
+    check("a full summary of keys of two bytes", a.status == HEAVY_DONE && a.needed == heavy_summary_room(3, 2));
     free(a.room);
     for (uint64_t width = 1; width < 9; width += 3) {
         for (uint64_t depth = 1; depth < 4; depth++) {
@@ -740,7 +708,7 @@ static void try_rooms(void) {
 static void *many(void *unused) {
     (void)unused;
     for (int i = 0; i < 2000; i++) {
-        struct answer a = summarise("a,5\nb,3\n", 2, 1 + (uint32_t)(i % 2), sizeof ONE - 1);
+        struct answer a = summarise("a,5\nb,3\n", 2, sizeof ONE - 1);
         int right = gave(&a, BYTES(ONE));
         struct answer rows = confirm(&a, "b,3\na,5\n", 8);
         right = right && gave(&rows, BYTES("a,5\nb,3\n"));

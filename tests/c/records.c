@@ -1,6 +1,7 @@
 /* The calls over records of any layout, what is told of a saved file and of a fault, with answers known by hand. Prints what
    is wrong, and how many checks passed. */
 #include "checks.h"
+#include "files.h"
 
 enum call { SUMMARISE, TABLE, ADD, CONFIRM, CONDENSE, REPORT };
 
@@ -23,16 +24,17 @@ struct answer {
 /* The columns are words between blanks. */
 static struct answer ask(struct asked it, struct heavy_layout layout, const char *columns, size_t room) {
     struct answer a = {77, 77, {77, 77, 77}, {0}};
-    size_t lengths[8], count = 0, len = 0;
+    size_t count = 0, len = 0;
+    uint64_t places[8];
     char joined[64];
     for (const char *at = columns; *at; at += *at == ' ') {
-        lengths[count] = strcspn(at, " ");
-        memcpy(joined + len, at, lengths[count]);
-        len += lengths[count];
-        at += lengths[count++];
+        size_t size = strcspn(at, " ");
+        memcpy(joined + len, at, size);
+        places[count++] = len += size;
+        at += size;
     }
     uint8_t *text = block(it.text, strlen(it.text)), *file = block(it.file, it.file_len), *words = block(joined, len);
-    size_t *ends = (size_t *)block(lengths, count * sizeof *lengths);
+    uint64_t *ends = (uint64_t *)block(places, count * sizeof *places);
     uint8_t *out = malloc(room ? room : 1);
     struct heavy_layout *lent = (struct heavy_layout *)block(&layout, sizeof layout);
     if (!out)
@@ -41,26 +43,26 @@ static struct answer ask(struct asked it, struct heavy_layout layout, const char
     size_t text_len = strlen(it.text);
     switch (it.call) {
     case SUMMARISE:
-        a.status = heavy_summarise_records(text, text_len, lent, words, len, ends, count, it.k, out, room, &a.needed, &a.told);
+        a.status = file_of_records(text, text_len, lent, words, len, ends, count, it.k, out, room, &a.needed, &a.told);
         break;
     case TABLE:
-        a.status = heavy_table_records(text, text_len, lent, words, len, ends, count, it.k, it.p, it.q, out, room, &a.needed,
+        a.status = table_of_records(text, text_len, lent, words, len, ends, count, it.k, it.p, it.q, out, room, &a.needed,
                                        &a.told);
         break;
     case ADD:
-        a.status = heavy_add_records(file, it.file_len, text, text_len, lent, words, len, ends, count, out, room, &a.needed,
+        a.status = file_with_records(file, it.file_len, text, text_len, lent, words, len, ends, count, out, room, &a.needed,
                                      &a.told);
         break;
     case CONFIRM:
-        a.status = heavy_confirm_records(file, it.file_len, text, text_len, lent, words, len, ends, count, it.p, it.q, out,
+        a.status = confirm_records_by(file, it.file_len, text, text_len, lent, words, len, ends, count, it.p, it.q, out,
                                          room, &a.needed, &a.told);
         break;
     case CONDENSE:
-        a.status = heavy_condense_records(file, it.file_len, text, text_len, lent, words, len, ends, count, out, room,
+        a.status = condense_records_by(file, it.file_len, text, text_len, lent, words, len, ends, count, out, room,
                                           &a.needed, &a.told);
         break;
     case REPORT:
-        a.status = heavy_report(text, text_len, lent, words, len, ends, count, it.k, it.p, it.q, out, room, &a.needed, &a.told);
+        a.status = heavy_report(text, text_len, lent, words, len, ends, count, it.k, it.p, it.q, &FIXED, out, room, &a.needed, &a.told);
         break;
     }
     memcpy(a.room, out, room ? room : 1);
@@ -86,7 +88,7 @@ static int gave(struct answer a, const void *bytes, size_t size) {
 /* ONE of no items. */
 static const char NONE[] = "HHS2\1\0\2\0\0\0\0\0\0\0\0\0\0";
 
-static const struct heavy_layout PLAIN = {',', 0, 0, 0, 0, {0, 0}}, NAMED = {';', 1, 0, 0, 1, {3, 7}};
+static const struct heavy_layout PLAIN = {',', 0, 0, 0, 0}, NAMED = {';', 1, 0, 0, 1};
 
 static struct asked summary(const char *text) { return (struct asked){SUMMARISE, NULL, 0, text, 2, 0, 0}; }
 
@@ -106,8 +108,6 @@ static void try_layouts(void) {
     check("a full room", gave(ask(summary("k;w\na;5\nb;3\n"), NAMED, "1 2", sizeof ONE - 1), BYTES(ONE)));
     struct answer a = ask(summary("k;w\na;5\nb;3\n"), NAMED, "1 2", sizeof ONE - 2);
     check("a small room", a.status == HEAVY_TOO_SMALL && a.needed == sizeof ONE - 1 && a.room[0] == 0xAA);
-    layout.hash[1] = 12345;
-    check("words of a hash", gave(ask(summary("a,5\nb,3\n"), layout, "", 64), BYTES(ONE)));
     layout = NAMED;
     layout.has_weight = 0;
     check("no weight's column", gave(ask(report("k;w\na;5\nb;3\na;1\n", 2, 0, 0), layout, "k", 64), BYTES("a,2\n")));
@@ -132,8 +132,7 @@ static void try_bad_layouts(void) {
     bad[3].has_weight = 2;
     bad[4].has_weight = 1;
     for (enum call call = SUMMARISE; call <= REPORT; call++) {
-        /* k 0 is refused by those that take it, but later */
-        struct asked it = {call, ONE, 3, "a,0\n", 0, 1, 0};
+        struct asked it = {call, ONE, sizeof ONE - 1, "a,0\n", 2, 1, 1};
         for (size_t i = 0; i < sizeof bad / sizeof *bad; i++)
             check("bad numbers of a layout", told(ask(it, bad[i], "", 64), HEAVY_USAGE, HEAVY_BAD_LAYOUT, 0, 0));
         struct heavy_layout layout = PLAIN;
@@ -185,11 +184,11 @@ static void try_saved(void) {
           told(ask(cut, PLAIN, "", 64), HEAVY_REFUSED, HEAVY_BAD_FILE, HEAVY_FILE_TRUNCATED, 1));
     struct asked cells = {TABLE, NULL, 0, "k;w\na;5\n", 3, 1, 9};
     struct answer a = ask(cells, NAMED, "k w", HEAVY_TABLE_ROOM(3, 1)), b;
-    b.status = heavy_table((const uint8_t *)"a,5\n", 4, 3, 1, 9, b.room, sizeof b.room, &b.needed, &b.told);
+    b.status = table_of_text((const uint8_t *)"a,5\n", 4, 3, 1, 9, b.room, sizeof b.room, &b.needed, &b.told);
     check("a table of records", b.status == HEAVY_DONE && gave(a, b.room, b.needed));
     struct asked more = {ADD, (const char *)a.room, a.needed, "a,1\n", 0, 0, 0};
     a = ask(more, PLAIN, "", HEAVY_TABLE_ROOM(3, 1));
-    b.status = heavy_table((const uint8_t *)"a,6\n", 4, 3, 1, 9, b.room, sizeof b.room, &b.needed, &b.told);
+    b.status = table_of_text((const uint8_t *)"a,6\n", 4, 3, 1, 9, b.room, sizeof b.room, &b.needed, &b.told);
     check("records added to a table", gave(a, b.room, b.needed));
 }
 
@@ -214,32 +213,32 @@ static void try_whole_records(void) {
     } rows[] = {{"a;b\nc", ';', 3}, {"\"a;\n", ';', 0}, {"x;\"a\n", ';', 0}, {"x;\"a\n", ',', 4}, {"a\nb\n", '\n', 0}, {"", ',', 0}};
     for (size_t i = 0; i < sizeof rows / sizeof *rows; i++) {
         uint8_t *lent = block(rows[i].text, strlen(rows[i].text));
-        check("whole records", heavy_whole_records_by(lent, strlen(rows[i].text), rows[i].delimiter) == rows[i].whole);
+        check("whole records", heavy_whole_records(lent, strlen(rows[i].text), rows[i].delimiter) == rows[i].whole);
         free(lent);
     }
 }
 
-static int has(const struct heavy_info *info, uint32_t kind, uint32_t version, const uint64_t numbers[7]) {
+static int has(const struct heavy_info *info, uint64_t kind, const uint64_t numbers[7]) {
     const uint64_t found[] = {info->total, info->k, info->keys, info->counters, info->slack, info->width, info->depth};
-    return info->kind == kind && info->version == version && memcmp(found, numbers, sizeof found) == 0;
+    return info->kind == kind && memcmp(found, numbers, sizeof found) == 0;
 }
 
 static void try_infos(void) {
     struct heavy_info info, before;
     struct heavy_fault fault = {7, 7, 7};
-    check("a summary's numbers", heavy_info((const uint8_t *)BYTES(ONE), &info, &fault) == HEAVY_DONE && fault.kind == 0
-          && has(&info, HEAVY_SUMMARY, 2, (uint64_t[]){8, 2, 2, 8, 0, 0, 0}));
+    check("a summary's numbers", info_of_file((const uint8_t *)BYTES(ONE), &info, &fault) == HEAVY_DONE && fault.kind == 0
+          && has(&info, HEAVY_SUMMARY, (uint64_t[]){8, 2, 2, 8, 0, 0, 0}));
     /* k 1, a total of 9, a 3: 6 are left for two, so the counter may be 3 too low */
     static const char LOW[] = "HHS1\1\0\1\0\0\0\0\0\0\0\11\0\1\1a\0\0\0\0\0\0\0\3";
-    uint32_t status = heavy_info((const uint8_t *)BYTES(LOW), &info, &fault);
-    check("a slack", status == HEAVY_DONE && has(&info, HEAVY_SUMMARY, 1, (uint64_t[]){9, 1, 1, 3, 3, 0, 0}));
+    uint32_t status = info_of_file((const uint8_t *)BYTES(LOW), &info, &fault);
+    check("a slack", status == HEAVY_DONE && has(&info, HEAVY_SUMMARY, (uint64_t[]){9, 1, 1, 3, 3, 0, 0}));
     uint8_t cells[HEAVY_TABLE_ROOM(3, 2)];
     size_t needed;
-    heavy_table((const uint8_t *)"a,5\n", 4, 3, 2, 0, cells, sizeof cells, &needed, &fault);
-    check("a table's numbers", heavy_info(cells, needed, &info, &fault) == HEAVY_DONE
-          && has(&info, HEAVY_TABLE, 2, (uint64_t[]){5, 0, 0, 0, 0, 3, 2}));
+    table_of_text((const uint8_t *)"a,5\n", 4, 3, 2, 0, cells, sizeof cells, &needed, &fault);
+    check("a table's numbers", info_of_file(cells, needed, &info, &fault) == HEAVY_DONE
+          && has(&info, HEAVY_TABLE, (uint64_t[]){5, 0, 0, 0, 0, 3, 2}));
     before = info;
-    status = heavy_info((const uint8_t *)ONE, sizeof ONE - 2, &info, &fault);
+    status = info_of_file((const uint8_t *)ONE, sizeof ONE - 2, &info, &fault);
     check("a file that is cut short", status == HEAVY_REFUSED && fault.kind == HEAVY_BAD_FILE && fault.number == 1
           && fault.cause == HEAVY_FILE_TRUNCATED && memcmp(&before, &info, sizeof info) == 0);
 }
@@ -249,7 +248,7 @@ static void try_texts(void) {
         struct heavy_fault fault;
         const char *text;
     } rows[] = {
-        {{0, 0, 0}, "no fault"},
+        {{0, 0, 0}, "unknown fault"},
         {{HEAVY_BAD_DEPTH, 0, 0}, "depth must be 1 to 16"},
         {{HEAVY_BAD_K, 0, 0}, "k must be 1 to 65535"},
         {{HEAVY_BAD_WIDTH, 0, 0}, "width must be 1 to 65536"},
@@ -268,10 +267,10 @@ static void try_texts(void) {
         {{HEAVY_TOTAL_DIFFERS, 0, 0}, "file 1: its total is not the input's"},
         {{HEAVY_NO_MEMORY, 0, 0}, "out of memory"},
         {{HEAVY_BAD_THRESHOLD, 0, 0}, "threshold must be P/Q with 1 <= P <= Q <= 4294967296 and P*(K+1) >= Q"},
-        {{HEAVY_BAD_END, 0, 4}, "item 4: no end of a key"},
-        {{HEAVY_BAD_WEIGHT_COUNT, 0, 0}, "weights must be none, or one for each key"},
-        {{HEAVY_BAD_DELIMITER, 0, 0}, "delimiter must be one byte or \\t, and no quote, CR or LF"},
-        {{HEAVY_BAD_COLUMN, 0, 0}, "columns must be numbers from 1 on or, with --header, names"},
+        {{HEAVY_BAD_END, 0, 4}, "end 4: before the one before it, or after all bytes"},
+        {{HEAVY_BAD_WEIGHT_COUNT, 0, 0}, "weights must be none, or one for each end"},
+        {{HEAVY_BAD_DELIMITER, 0, 0}, "delimiter must be no quote, CR or LF"},
+        {{HEAVY_BAD_COLUMN, 0, 0}, "columns must be numbers from 1 on or, with header 1, names"},
         {{HEAVY_NO_COLUMN, 0, 0}, "the header has no such column"},
         {{HEAVY_WEIGHT_OUTSIDE, 0, 0}, "file 1: a key's weight in the input is outside its bounds"},
         {{HEAVY_BAD_LAYOUT, 0, 0}, "header, allow_zero and has_weight must be 0 or 1, decimals 0 to 9"},

@@ -1,5 +1,4 @@
-pub mod GrowingFacts
+pub mod ChangeFacts
 pub mod HeldValues
 pub mod LayoutFacts
 pub mod OutcomeFacts
-pub mod SizeFacts

@@ -104,6 +104,14 @@ pub record IsTold (code : ℕ) (fault : Fault) (refusal : ToolError) : Type 0 wh
 abbrev pub no_fault : Fault
 no_fault = record { kind = 0; cause = 0; number = 0 }
 
+-- the kind of fault of a handle that has no value
+abbrev pub no_value_kind : ℕ
+no_value_kind = 28
+
+-- the numbers that tell it
+abbrev pub no_value : Fault
+no_value = record { kind = no_value_kind; cause = 0; number = 0 }
+
 -- a call that is done, or whose room is too small, tells no fault
 abbrev pub TellsNone : ℕ → Fault → Type 0
 TellsNone status fault = (status ≡ 0) ⊎ (status ≡ 5) → fault ≡ no_fault

@@ -1,12 +1,6 @@
--- Items whose keys lie in one slice, one after the other.
-use Rattle.std.specs.Prelude.{◌≡◌, ◌≢◌, ◌+◌, ◌-◌, ◌==◌, ◌&&◌, ◌||◌, nat_le, ℕ, List, [], ◌∷◌, length, take, drop, slice_index_or, Option, Some, None, IfSome, Result, if◌then◌else◌}
-use Rattle.std.proofs.Common.{ap}
-use Rattle.hh_stream.specs.Weights.{Entry}
-use Rattle.hh_saved.specs.declared.saved.Saved.{Saved}
-use Rattle.hh_commands.specs.Files.{Refuses, file_of, ◌>>=◌}
-use Rattle.hh_faults.specs.declared.error.ToolError.{ToolError}
-use Rattle.hh_faults.specs.declared.error.ToolError.TheVariants as tool
-use Rattle.heavy_ffi.specs.Outcomes.{IsOutcome, TellsHead}
+-- Keys that lie in one slice, one after the other, and items of such keys.
+use Rattle.std.specs.Prelude.{◌+◌, ◌-◌, ◌==◌, ◌&&◌, ◌||◌, nat_le, ℕ, List, [], ◌∷◌, length, map, take, drop, slice_index_or, Option, Some, None, if◌then◌else◌}
+use Rattle.hh_stream.specs.Weights.{Bytes, Entry}
 use Rattle.heavy_ffi.specs.declared.fault.Fault.{Fault}
 
 -- the items of keys that are the front of these bytes and end there, where the one before them ends
@@ -45,18 +39,6 @@ shape_fault_of None count weights =
 abbrev pub shape_fault : ℕ → List ℕ → List ℕ → Option Fault
 shape_fault len ends weights = shape_fault_of (bad_end 1 0 len ends) (length ends) (length weights)
 
--- what a call over a file and items leaves, whose keys end there: the ends and the weights are tested first, and then it gives or
--- refuses by the items; where the file fails at its head, it tells so
-pub record AnswersItems (keys ends weights file : List ℕ) (Gives : List Entry → List ℕ → Type 0)
-    (Refused : List Entry → ToolError → Type 0) (status : ℕ) (old new : List ℕ) (needed : ℕ) (fault : Fault) : Type 0 where
-  pub outcome : shape_fault (length keys) ends weights ≡ None
-      → IsOutcome (Gives (items_of keys ends weights)) (Refused (items_of keys ends weights)) status old new needed fault
-  pub shape : IfSome (shape_fault (length keys) ends weights) (λ shape. (status ≡ 2) × (fault ≡ shape) × (new ≡ old))
-  pub early : shape_fault (length keys) ends weights ≡ None → TellsHead file status fault
-  pub no_bytes : status ≢ 0 → status ≢ 5 → needed ≡ 0
-
--- a refusal of the file is one of what is made of its value
-pub refused_first : {X : Type 0} (file : List ℕ) (follows : Saved → Result X ToolError) (e : ToolError)
-    → Refuses (file_of 1 file) e → Refuses (file_of 1 file >>= follows) e
-refused_first file follows tool.Memory h = tt
-refused_first file follows e h = ap (λ (r : Result Saved ToolError). r >>= follows) h
+-- the keys that end there in these bytes
+abbrev pub keys_of : List ℕ → List ℕ → List Bytes
+keys_of bytes ends = map (λ e. e.0) (items_of bytes ends [])

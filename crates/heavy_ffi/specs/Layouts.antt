@@ -1,6 +1,5 @@
 -- The layout of a text's records, as C says it.
-use Rattle.std.specs.Prelude.{◌≡◌, ◌≢◌, ◌<◌, ◌≤◌, ◌⊎◌, ◌==◌, ◌&&◌, nat_le, ℕ, List, [], ◌∷◌, ◌++◌, length, is_some, Option, option_to_list, Some, None, IfSome, option_map, ⊤, if◌then◌else◌}
-use Rattle.hh_stream.specs.Cuttings.{pieces_of}
+use Rattle.std.specs.Prelude.{◌≡◌, ◌<◌, ◌≤◌, ◌⊎◌, ◌==◌, ◌&&◌, nat_le, ℕ, List, [], ◌∷◌, ◌++◌, length, is_some, Option, option_to_list, Some, None, option_map, ⊤, if◌then◌else◌}
 use Rattle.hh_pieces.specs.Pieces.{IsCutAt}
 use Rattle.hh_records.specs.declared.format.Format.TheVariants as format
 use Rattle.hh_records.specs.LayoutWords.{SaysLayout, key_words, weight_word}
@@ -10,7 +9,7 @@ use Rattle.hh_records.specs.declared.layout.Layout.{Layout}
 use Rattle.hh_records.specs.declared.layout_words.LayoutWords.{LayoutWords}
 use Rattle.hh_faults.specs.declared.error.ToolError.{ToolError}
 use Rattle.hh_faults.specs.declared.error.ToolError.TheVariants as tool
-use Rattle.heavy_ffi.specs.Outcomes.{IsOutcome, IsRefused}
+use Rattle.heavy_ffi.specs.Items.{shape_fault}
 use Rattle.heavy_ffi.specs.declared.fault.Fault.{Fault}
 use Rattle.heavy_ffi.specs.declared.layout.TextLayout.{TextLayout}
 
@@ -19,11 +18,19 @@ abbrev pub bad_layout_kind : ℕ
 bad_layout_kind = 26
 
 -- the fault of a layout that has other numbers than it may have beside a count of columns
-abbrev pub layout_fault : TextLayout → ℕ → Option Fault
-layout_fault o count =
+abbrev pub numbers_fault : TextLayout → ℕ → Option Fault
+numbers_fault o count =
     if nat_le o.header 1 && nat_le o.allow_zero 1 && nat_le o.decimals 9 && nat_le o.has_weight 1 && nat_le o.has_weight count
     then None
     else Some (record { kind = bad_layout_kind; cause = 0; number = 0 })
+
+-- the fault of columns of len bytes in all that can't have these ends, or else of the layout's numbers
+abbrev pub first_fault : Option Fault → Option Fault → Option Fault
+first_fault (Some bad) other = Some bad
+first_fault None other = other
+
+abbrev pub layout_fault : TextLayout → ℕ → List ℕ → Option Fault
+layout_fault o len ends = first_fault (shape_fault len ends []) (numbers_fault o (length ends))
 
 -- what the program would be told in words: the columns are the key's, and then the weight's where it has one
 pub record AreLayoutWords (o : TextLayout) (columns : List (List ℕ)) (words : LayoutWords) : Type 0 where
@@ -54,19 +61,6 @@ Laid o columns Holds = (layout : Layout) × IsLayout o columns layout × Holds l
 -- what a refusal tells where the layout comes first: of its words, or of what follows
 abbrev pub LaidRefused : TextLayout → List (List ℕ) → (Layout → ToolError → Type 0) → ToolError → Type 0
 LaidRefused o columns Follows e = LayoutRefused o columns e ⊎ Laid o columns (λ layout. Follows layout e)
-
--- what a call over records of a layout leaves: the layout is tested first, then an argument that is wrong, and then it gives or
--- refuses by the layout that its numbers and columns say
-pub record AnswersLaid (o : TextLayout) (lengths columns : List ℕ) (Gives : Layout → List ℕ → Type 0)
-    (Refused : Layout → ToolError → Type 0) (wrong : Option ToolError)
-    (status : ℕ) (old new : List ℕ) (needed : ℕ) (fault : Fault) : Type 0 where
-  pub outcome : layout_fault o (length lengths) ≡ None
-      → IsOutcome (λ bytes. Laid o (pieces_of lengths columns) (λ l. Gives l bytes))
-      (LaidRefused o (pieces_of lengths columns) Refused) status old new needed fault
-  pub early : layout_fault o (length lengths) ≡ None
-      → IfSome wrong (λ w. IsRefused (LaidRefused o (pieces_of lengths columns) (λ l e. e ≡ w)) status fault)
-  pub bad_layout : IfSome (layout_fault o (length lengths)) (λ bad. (status ≡ 2) × (fault ≡ bad) × (new ≡ old))
-  pub no_bytes : status ≢ 0 → status ≢ 5 → needed ≡ 0
 
 -- a share of two numbers, and none where both are 0
 abbrev pub share_given : ℕ → ℕ → Option (ℕ × ℕ)

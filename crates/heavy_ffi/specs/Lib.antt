@@ -1,5 +1,5 @@
+pub mod Changes
 pub mod Faults
-pub mod Growing
 pub mod Held
 pub mod Infos
 pub mod Items

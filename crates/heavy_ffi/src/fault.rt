@@ -2,7 +2,7 @@
 
 ghost use Rattle.std.specs.Prelude.{◌≡◌};
 ghost use Rattle.heavy_ffi.specs.Faults.{IsTold, cause_of, file_cause, key_cause, kind_of};
-ghost use Rattle.heavy_ffi.specs.Faults.{merge_cause, no_fault, number_of, record_cause};
+ghost use Rattle.heavy_ffi.specs.Faults.{merge_cause, no_fault, no_value, number_of, record_cause};
 
 use hh_faults::{BadRecordCause, KeyCause, MergeCause, SavedFault, ToolError};
 
@@ -16,6 +16,9 @@ pub struct Fault {
     pub number: u64,
 }
 
+/// The kind of the fault of a handle that has no value.
+const NO_VALUE: u32 = 28;
+
 impl Fault {
     /// No fault.
     pub(crate) fn none() -> Fault
@@ -23,6 +26,17 @@ impl Fault {
     {
         Fault {
             kind: 0,
+            cause: 0,
+            number: 0,
+        }
+    }
+
+    /// The fault of a handle that has no value.
+    pub(crate) fn no_value() -> Fault
+        ensures { result ≡ no_value }
+    {
+        Fault {
+            kind: NO_VALUE,
             cause: 0,
             number: 0,
         }

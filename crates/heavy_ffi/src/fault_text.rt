@@ -114,8 +114,6 @@ fn plain_of(kind: u32) -> Option<ToolError>
         14 => Some(ToolError::NotCounters),
         15 => Some(ToolError::TotalDiffers),
         19 => Some(ToolError::BadThreshold),
-        22 => Some(ToolError::BadDelimiter),
-        23 => Some(ToolError::BadColumn),
         24 => Some(ToolError::NoColumn),
         25 => Some(ToolError::WeightOutside),
         _ => None,
@@ -136,12 +134,16 @@ fn refusal_of(fault: &Fault) -> Option<ToolError>
 /// The text of a fault that is no refusal of the program.
 fn other_text(alloc: Global, fault: &Fault) -> Result<String, AllocError> {
     match (fault.kind, fault.cause, fault.number) {
-        (0, 0, 0) => "no fault".to_string(alloc),
-        (20, 0, number) => format!(in alloc; "item {number}: no end of a key"),
-        (21, 0, 0) => "weights must be none, or one for each key".to_string(alloc),
+        (20, 0, number) => format!(in alloc;
+            "end {number}: before the one before it, or after all bytes"
+        ),
+        (21, 0, 0) => "weights must be none, or one for each end".to_string(alloc),
+        (22, 0, 0) => "delimiter must be no quote, CR or LF".to_string(alloc),
+        (23, 0, 0) => "columns must be numbers from 1 on or, with header 1, names".to_string(alloc),
         (26, 0, 0) => {
             "header, allow_zero and has_weight must be 0 or 1, decimals 0 to 9".to_string(alloc)
         }
+        (28, 0, 0) => "heavy is NULL".to_string(alloc),
         _ => "unknown fault".to_string(alloc),
     }
 }
@@ -156,7 +158,7 @@ fn text_of(alloc: Global, fault: &Fault) -> Result<String, AllocError> {
 
 /// Gives the text that the program has for a fault.
 #[unsafe(no_mangle)]
-pub extern "C" fn heavy_strerror(
+pub extern "C" fn proved_strerror(
     alloc: Global,
     fault: &Fault,
     out: &mut [u8],

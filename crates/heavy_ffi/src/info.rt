@@ -1,23 +1,21 @@
-//! What is in a saved file, as numbers.
+//! What is in a value, as numbers.
 
-ghost use Rattle.std.specs.Prelude.{◌≡◌, ◌≢◌, ◌∷◌, [], IfOk};
-ghost use Rattle.hh_commands.specs.Describe.{version_number};
-ghost use Rattle.hh_commands.specs.Files.{Refuses, file_of};
-ghost use Rattle.heavy_ffi.specs.Infos.{IsInfo, info_of};
-ghost use Rattle.heavy_ffi.specs.Outcomes.{IsOutcome, TellsHead};
+ghost use Rattle.std.specs.Prelude.{◌≡◌, ◌≢◌, ◌∷◌, []};
+ghost use Rattle.hh_faults.specs.declared.error.ToolError.TheVariants as tool;
+ghost use Rattle.heavy_ffi.specs.Infos.{info_of};
+ghost use Rattle.heavy_ffi.specs.Outcomes.{AnswersOn};
 
 use crate::fault::{Fault, tell};
-use crate::room::DONE;
-use hh_commands::file_of;
+use crate::handle::Heavy;
+use crate::room::{DONE, USAGE};
 use hh_saved::Saved;
 use std::alloc::Global;
 
-/// What is in a saved file. What the other kind of file has is 0.
+/// What is in a value. What the other kind has is 0.
 #[derive(Clone, Copy)]
 #[repr(C)]
 pub struct Info {
-    pub kind: u32,
-    pub version: u32,
+    pub kind: u64,
     pub total: u64,
     pub k: u64,
     pub keys: u64,
@@ -27,21 +25,13 @@ pub struct Info {
     pub depth: u64,
 }
 
-/// The version of a saved file.
-fn version_number(file: &[u8]) -> u32
-    ensures { result ≡ version_number file.now }
-{
-    if file.starts_with(b"HHS1") { 1 } else { 2 }
-}
-
-/// The numbers of a file of this version that holds this value.
-fn info_of(version: u32, saved: &Saved) -> Info
-    ensures { result ≡ info_of version saved.now }
+/// The numbers of a value.
+fn info_of(saved: &Saved) -> Info
+    ensures { result ≡ info_of saved.now }
 {
     match saved {
         Saved::Counters(summary) => Info {
             kind: 1,
-            version,
             total: summary.total(),
             k: summary.k(),
             keys: summary.len() as u64,
@@ -52,7 +42,6 @@ fn info_of(version: u32, saved: &Saved) -> Info
         },
         Saved::Cells(table) => Info {
             kind: 2,
-            version,
             total: table.total(),
             k: 0,
             keys: 0,
@@ -64,18 +53,30 @@ fn info_of(version: u32, saved: &Saved) -> Info
     }
 }
 
-/// Tells what is in a saved file. After a refusal `info` is as it was.
+/// Tells what is in the value that `heavy` has. After a refusal `info` is as it was.
 #[unsafe(no_mangle)]
-pub extern "C" fn heavy_info(alloc: Global, file: &[u8], info: &mut Info, fault: &mut Fault) -> u32
-    ensures outcome { IsOutcome (IsInfo file.now) (Refuses (file_of 1 file.now))
+pub extern "C" fn proved_info(
+    alloc: Global,
+    heavy: &mut Heavy,
+    info: &mut Info,
+    fault: &mut Fault,
+) -> u32
+    ensures answers { AnswersOn heavy.old.place.value
+        (λ value infos. infos ≡ info_of value ∷ []) (λ value refusal. refusal ≡ tool.Memory)
         result (info.old ∷ []) (info.new ∷ []) 1 fault.new }
-    ensures early { TellsHead file.now result fault.new }
+    ensures kept { heavy.new.place.value ≡ heavy.old.place.value }
     ensures no_room { result ≢ 5 }
 {
-    match file_of(alloc, 1, file) {
+    let Some(mut value) = heavy.take(alloc) else {
+        *fault = Fault::no_value();
+        return USAGE;
+    };
+    let copied = value.copied(alloc);
+    heavy.put(value);
+    match copied {
         Ok(saved) => {
             *fault = Fault::none();
-            *info = info_of(version_number(file), &saved);
+            *info = info_of(&saved);
             DONE
         }
         Err(refusal) => tell(&refusal, fault),

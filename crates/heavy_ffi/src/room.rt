@@ -2,6 +2,7 @@
 
 ghost use Rattle.std.specs.Prelude.{◌≡◌, ◌≢◌, ◌<◌, ◌≤◌, ◌⊎◌, length, map, take};
 ghost use Rattle.std.specs.Prelude.{Err, IfOk, IsOkAnd};
+ghost use Rattle.heavy_ffi.specs.Faults.{no_value};
 ghost use Rattle.heavy_ffi.specs.Outcomes.{IsGiven, IsOutcome, both_of};
 
 use crate::fault::{Fault, tell};
@@ -65,6 +66,17 @@ pub(crate) fn answer<T: Copy>(
             tell(&refusal, fault)
         }
     }
+}
+
+/// The answer of a call whose handle has no value.
+pub(crate) fn answer_nothing(needed: &mut usize, fault: &mut Fault) -> u32
+    ensures status { result ≡ 2 }
+    ensures fault { fault.new ≡ no_value }
+    ensures nothing { needed.new ≡ 0 }
+{
+    *needed = 0;
+    *fault = Fault::no_value();
+    USAGE
 }
 
 /// The pairs as C has them.

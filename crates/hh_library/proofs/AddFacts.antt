@@ -13,7 +13,7 @@ use Rattle.hh_saved.specs.declared.saved.Saved.{Saved}
 use Rattle.hh_saved.specs.declared.format.Version.TheVariants as version
 use Rattle.hh_saved.specs.declared.saved.Saved.TheVariants.{Cells, Counters}
 use Rattle.hh_saved.specs.Spelling.{Spells}
-use Rattle.hh_library.specs.Add.{AddsItems, GoesOn, IsAdded, TableGoesOn, added, added_to, bad_item, grid_and, item_fault, sketch_and, total_in, value_and}
+use Rattle.hh_library.specs.Add.{GoesOn, IsAdded, TableGoesOn, added, added_to, bad_item, grid_and, item_fault, sketch_and, total_in, value_and}
 use Rattle.hh_commands.specs.Ask.{or_else, unless}
 use Rattle.hh_commands.specs.Files.{Refuses}
 use Rattle.hh_faults.specs.declared.error.ToolError.{ToolError}
@@ -110,34 +110,14 @@ added_value file xs v all holds is =
     let made : added_to v xs ≡ Ok all = rw holds at is in came_of (bad_item 1 (total_in v) xs) (value_and v xs) all made
 
 -- so a file with the summary of a stream goes on
-goes_on : SummariesFollowItems → (file : List ℕ) (xs : List Entry) (bytes : List ℕ) → IsAdded file xs bytes → GoesOn file xs bytes
+pub goes_on : SummariesFollowItems → (file : List ℕ) (xs : List Entry) (bytes : List ℕ) → IsAdded file xs bytes → GoesOn file xs bytes
 goes_on law file xs bytes (all, is, spells) = λ k stream holds.
     let came = added_value file xs (Counters (sketch_of k stream)) all holds is in
     subst (λ (v : Saved). Spells version.Two bytes v) (sym came ∙ ap Counters (sums_of_stream law k stream xs)) spells
 
 -- and so does one with the table of a stream
-table_goes_on : TablesFollowItems → (file : List ℕ) (xs : List Entry) (bytes : List ℕ) → IsAdded file xs bytes
+pub table_goes_on : TablesFollowItems → (file : List ℕ) (xs : List Entry) (bytes : List ℕ) → IsAdded file xs bytes
     → TableGoesOn file xs bytes
 table_goes_on law file xs bytes (all, is, spells) = λ family width stream holds.
     let came = added_value file xs (Cells (table_of family width stream)) all holds is in
     subst (λ (v : Saved). Spells version.Two bytes v) (sym came ∙ ap Cells (grids_of_stream law family width stream xs)) spells
-
--- a file with the items added goes on from a stream's
-pub adds_items : SummariesFollowItems → TablesFollowItems → (file : List ℕ) (xs : List Entry) (bytes : List ℕ)
-    → IsAdded file xs bytes → AddsItems file xs bytes
-adds_items sums tables file xs bytes is = record {
-  added = is;
-  stream = goes_on sums file xs bytes is;
-  table = table_goes_on tables file xs bytes is;
-}
-
--- adding keeps k
-pub keeps_k : (s : SummaryView) (xs : List Entry) → (sketch_and s xs).k ≡ s.k
-keeps_k s [] = refl
-keeps_k s (x ∷ xs) = keeps_k (sketch_with s x) xs
-
--- and a table's family and width
-pub keeps_shape : (t : TableView) (xs : List Entry)
-    → ((grid_and t xs).family ≡ t.family) × ((grid_and t xs).width ≡ t.width)
-keeps_shape t [] = (refl, refl)
-keeps_shape t (x ∷ xs) = keeps_shape (grid_with t x) xs

@@ -86,18 +86,9 @@ pub record AddsItems (file : List ℕ) (xs : List Entry) (bytes : List ℕ) : Ty
   pub table : TableGoesOn file xs bytes
 
 -- the summary of no items, or the fault of its k
-abbrev pub empty_of : ℕ → Result SummaryView ToolError
-empty_of k = unless (bad_k k) (sketch_of k [])
-
--- the bytes are the spelling in version 2 of the summary of no items
-abbrev pub IsEmpty : ℕ → List ℕ → Type 0
-IsEmpty k bytes = (s : SummaryView) × (empty_of k ≡ Ok s) × Spells version.Two bytes (Counters s)
+abbrev pub empty_of : ℕ → Result Saved ToolError
+empty_of k = unless (bad_k k) (Counters (sketch_of k []))
 
 -- the table of no items with the family of a seed, or the fault of its depth or width
-abbrev pub empty_table_of : ℕ → ℕ → ℕ → Result TableView ToolError
-empty_table_of width depth seed = unless (bad_table depth width) (table_of (drawn_family seed depth) width [])
-
--- the bytes are the spelling in version 2 of the table of no items
-abbrev pub IsEmptyTable : ℕ → ℕ → ℕ → List ℕ → Type 0
-IsEmptyTable width depth seed bytes =
-    (t : TableView) × (empty_table_of width depth seed ≡ Ok t) × Spells version.Two bytes (Cells t)
+abbrev pub empty_table_of : ℕ → ℕ → ℕ → Result Saved ToolError
+empty_table_of width depth seed = unless (bad_table depth width) (Cells (table_of (drawn_family seed depth) width []))

@@ -3,13 +3,13 @@ use Rattle.std.specs.Prelude.{◌==◌, ◌+◌, ℕ, List, Option, Some, None, 
 use Rattle.hh_stream.specs.Weights.{Entry, total_of}
 use Rattle.hh_counters.specs.Condensed.{condensed}
 use Rattle.hh_summaries.specs.Counters.{SummaryView}
+use Rattle.hh_summaries.specs.Report.{is_threshold}
 use Rattle.hh_rows.specs.Rows.{condensed_text, rows_of}
 use Rattle.hh_saved.specs.declared.saved.Saved.{Saved}
 use Rattle.hh_saved.specs.declared.saved.Saved.TheVariants.{Counters, Cells}
 use Rattle.hh_library.specs.Add.{bad_item}
 use Rattle.hh_commands.specs.Ask.{or_else, unless}
 use Rattle.hh_commands.specs.Confirm.{confirmed_above}
-use Rattle.hh_library.specs.ConfirmShare.{share_for}
 use Rattle.hh_commands.specs.Files.{file_of, ◌>>=◌}
 use Rattle.hh_faults.specs.declared.error.ToolError.{ToolError}
 use Rattle.hh_faults.specs.declared.error.ToolError.TheVariants as tool
@@ -33,7 +33,7 @@ condensed_items file xs = do
 -- two numbers where they are a threshold for k counters; where none are given, the least threshold, 1/(k + 1)
 abbrev pub share_or_least : Option (ℕ × ℕ) → ℕ → Option (ℕ × ℕ)
 share_or_least None k = Some (1, k + 1)
-share_or_least (Some t) k = share_for k t.0 t.1
+share_or_least (Some t) k = if is_threshold k t.0 t.1 then Some t else None
 
 -- the refusal of items whose total is not the summary's
 abbrev pub bad_total : ℕ → ℕ → Option ToolError

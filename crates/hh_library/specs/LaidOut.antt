@@ -13,9 +13,10 @@ use Rattle.hh_commands.specs.Bounds.{AreWithin}
 use Rattle.hh_commands.specs.declared.compared.Bounds.TheVariants as bounds
 use Rattle.hh_commands.specs.Condense.{CondensePartRefused, CondensesRows}
 use Rattle.hh_commands.specs.Confirm.{CompareAboveRefused, confirmed_above}
-use Rattle.hh_commands.specs.Files.{HoldsSummary, RefusedFrom, Refuses, file_of}
+use Rattle.hh_commands.specs.Files.{HoldsSummary, RefusedFrom, Refuses}
 use Rattle.hh_records.specs.Refusals.{RecordsRefused}
-use Rattle.hh_library.specs.Add.{GoesOn, IsAdded, TableGoesOn, added}
+use Rattle.hh_saved.specs.declared.saved.Saved.{Saved}
+use Rattle.hh_library.specs.Add.{added_to}
 use Rattle.hh_library.specs.CountItems.{share_or_least}
 use Rattle.hh_faults.specs.declared.error.ToolError.{ToolError}
 use Rattle.hh_faults.specs.declared.error.ToolError.TheVariants as tool
@@ -31,15 +32,14 @@ text_laid layout text = record {
 abbrev pub rows_in_units : ℕ → RowOptions
 rows_in_units d = record { top = None; share = false; decimals = d }
 
--- the bytes are the summary or table of the file with the items added that the records are, and go on from a stream's
-abbrev pub AddsRecords : List ℕ → Known → List ℕ → Type 0
-AddsRecords file known bytes =
-    (xs : List Entry) × ReadsAs known (Ok xs) × IsAdded file xs bytes × GoesOn file xs bytes × TableGoesOn file xs bytes
+-- the value becomes that with the items added that the records are
+abbrev pub AddsRecords : Saved → Known → Saved → Type 0
+AddsRecords v known new = (xs : List Entry) × ReadsAs known (Ok xs) × (added_to v xs ≡ Ok new)
 
--- what a refusal to add records tells: of the file, of the records, or of their items
-abbrev pub AddRecordsRefused : List ℕ → Known → ToolError → Type 0
-AddRecordsRefused file known e = Refuses (file_of 1 file) e
-    ⊎ (RecordsRefused known e ⊎ ((xs : List Entry) × ReadsAs known (Ok xs) × Refuses (added file xs) e))
+-- what a refusal to add records tells: of the records, or of their items
+abbrev pub AddRecordsRefused : Saved → Known → ToolError → Type 0
+AddRecordsRefused v known e =
+    RecordsRefused known e ⊎ ((xs : List Entry) × ReadsAs known (Ok xs) × Refuses (added_to v xs) e)
 
 -- the file holds a summary, and these are the rows of its keys above a share in a stream of its total, that which the
 -- records are, where no key is outside its bounds

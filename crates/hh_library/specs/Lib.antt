@@ -1,8 +1,7 @@
 pub mod Accumulator
 pub mod Add
-pub mod AddText
+pub mod Asked
 pub mod Confirm
-pub mod ConfirmShare
 pub mod CountItems
 pub mod Entries
 pub mod LaidOut

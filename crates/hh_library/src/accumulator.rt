@@ -1,26 +1,31 @@
 //! The value of a saved file as it grows: a summary as a monitor, once many items come.
 
-ghost use Rattle.std.specs.Prelude.{◌≡◌, ◌+◌, ◌<◌, ◌≤◌, [], ◌∷◌, length, None, Ok};
+ghost use Rattle.std.specs.Prelude.{◌≡◌, ◌+◌, ◌<◌, ◌≤◌, [], ◌∷◌, length, map, vec_items};
+ghost use Rattle.std.specs.Prelude.{None, Ok};
 ghost use Rattle.std.specs.Prelude.{IfErr, IfOk, IsTrue, MatchResult, OnErr, OnOk};
 ghost use Rattle.hh_stream.specs.Weights.{max_key_len, max_total};
 ghost use Rattle.hh_counters.specs.SpaceSaving.{monitor_of};
 ghost use Rattle.hh_saved.specs.Spelling.{Spells};
 ghost use Rattle.hh_saved.specs.declared.format.Version.TheVariants as version;
 ghost use Rattle.hh_faults.specs.declared.error.ToolError.TheVariants as tool;
-ghost use Rattle.hh_commands.specs.Ask.{unless};
+ghost use Rattle.hh_commands.specs.Ask.{answer_of, key_fault, unless};
 ghost use Rattle.hh_commands.specs.Files.{Refuses, StopsAtHead};
-ghost use Rattle.hh_commands.specs.Merge.{merged_from};
+ghost use Rattle.hh_commands.specs.Merge.{merge_saved, merged_from};
 ghost use Rattle.hh_library.specs.Accumulator.{Grows, IsReady, value_of};
-ghost use Rattle.hh_library.specs.Add.{item_fault, total_in, value_and};
+ghost use Rattle.hh_library.specs.Add.{added_to, entries, item_fault, total_in, value_and};
+ghost use Rattle.hh_library.specs.Asked.{asked_of};
 ghost use Rattle.hh_library.specs.declared.accumulator.Form.TheVariants.{Translated, Whole};
 
+use crate::commands::add::add_all;
+use crate::commands::keys::{answers_of, check_keys};
 use crate::items::item_fault;
-use hh_commands::{file_of, merge_saved};
+use hh_commands::{answer_of, check_key, file_of, merge_saved, slack_of};
 use hh_counters::laws::summaries_follow_items;
 use hh_counters::{BucketSaving, Monitor, Summary};
 use hh_faults::ToolError;
+use hh_saved::laws::spellings_are_read;
 use hh_saved::{Saved, write};
-use hh_stream::KeyHash;
+use hh_stream::{Key, KeyHash};
 use std::alloc::{AllocError, Global};
 use std::marker::Model;
 use std::mem;
@@ -116,6 +121,19 @@ impl Accumulator {
         Ok(())
     }
 
+    /// Adds `items` in order, numbered from 1, each a key and its weight: all of them, or after a
+    /// refusal none. They are added to a copy of the value, which then takes its place.
+    pub fn add_items(&mut self, alloc: Global, items: &[(&[u8], u64)]) -> Result<(), ToolError>
+        ensures added { OnOk result (added_to self.old (entries items.now) ≡ Ok self.new) }
+        ensures refused { IfErr result (Refuses (added_to self.old (entries items.now))) }
+        ensures unchanged { OnErr result (self.new ≡ self.old) }
+    {
+        let mut next = Accumulator::of(self.copied(alloc)?, self.hash);
+        add_all(alloc, &mut next, items)?;
+        *self = next;
+        Ok(())
+    }
+
     /// Merges a saved `file`, as file 2. After a refusal the value is as it was.
     pub fn absorb(&mut self, alloc: Global, file: &[u8]) -> Result<(), ToolError>
         ensures merged { OnOk result (merged_from 2 self.old (file.now ∷ []) ≡ Ok self.new) }
@@ -124,11 +142,72 @@ impl Accumulator {
         ensures early { StopsAtHead 2 file.now result }
     {
         let next = file_of(alloc, 2, file)?;
+        let mut other = Accumulator::of(next, self.hash);
+        self.merge(alloc, &mut other)
+    }
+
+    /// Merges the value of `other`, as file 2, which stays. After a refusal both are as they were.
+    pub fn merge(&mut self, alloc: Global, other: &mut Accumulator) -> Result<(), ToolError>
+        ensures merged { OnOk result (merge_saved 2 self.old other.old ≡ Ok self.new) }
+        ensures refused { IfErr result (Refuses (merge_saved 2 self.old other.old)) }
+        ensures unchanged { OnErr result (self.new ≡ self.old) }
+        ensures kept { other.new ≡ other.old }
+    {
+        self.spent = 0;
+        other.spent = 0;
+        make_whole(alloc, &mut self.form)?;
+        make_whole(alloc, &mut other.form)?;
+        match (&mut self.form, &other.form) {
+            (Form::Whole(saved), Form::Whole(next)) => merge_saved(saved, 2, next),
+            _ => unreachable!("such forms are whole"),
+        }
+    }
+
+    /// Gives the least and the most that each of `keys` can weigh, which are numbered from 1.
+    pub fn ask(&mut self, alloc: Global, keys: &[Vec<u8>]) -> Result<Vec<(u64, u64)>, ToolError>
+        ensures bounds { IfOk result (λ bounds.
+            asked_of self.old (map vec_items keys.now) ≡ Ok bounds.items) }
+        ensures refused { IfErr result (Refuses (asked_of self.old (map vec_items keys.now))) }
+        ensures kept { self.new ≡ self.old }
+    {
+        check_keys(keys)?;
         self.spent = 0;
         make_whole(alloc, &mut self.form)?;
-        match &mut self.form {
-            Form::Whole(saved) => merge_saved(saved, 2, &next),
+        match &self.form {
+            Form::Whole(saved) => Ok(answers_of(alloc, saved, keys)?),
             _ => unreachable!("such a form is whole"),
+        }
+    }
+
+    /// Gives the least and the most that `key` can weigh.
+    pub fn ask_key(&mut self, alloc: Global, key: &[u8]) -> Result<(u64, u64), ToolError>
+        ensures bounds { IfOk result (λ bounds.
+            unless (key_fault 1 key.now) (answer_of self.old key.now) ≡ Ok bounds) }
+        ensures refused { IfErr result
+            (Refuses (unless (key_fault 1 key.now) (answer_of self.old key.now))) }
+        ensures kept { self.new ≡ self.old }
+    {
+        check_key(1, key)?;
+        let key = Key::of_bytes(alloc, key)?;
+        self.spent = 0;
+        make_whole(alloc, &mut self.form)?;
+        match &self.form {
+            Form::Whole(saved) => Ok(answer_of(saved, slack_of(saved), &key)),
+            _ => unreachable!("such a form is whole"),
+        }
+    }
+
+    /// Gives a copy of the value.
+    pub fn copied(&mut self, alloc: Global) -> Result<Saved, ToolError>
+        ensures value { IfOk result (λ saved. saved ≡ self.old) }
+        ensures refused { IfErr result (λ refusal. refusal ≡ tool.Memory) }
+        ensures kept { self.new ≡ self.old }
+    {
+        spellings_are_read();
+        let file = self.save(alloc)?;
+        match file_of(alloc, 1, &file) {
+            Ok(saved) => Ok(saved),
+            Err(_) => Err(ToolError::Memory),
         }
     }
 

@@ -1,9 +1,7 @@
 //! One module for each kind of call.
 
 pub(crate) mod add;
-pub(crate) mod add_text;
 pub(crate) mod confirm;
-pub(crate) mod confirm_share;
 pub(crate) mod count_items;
 pub(crate) mod entries;
 pub(crate) mod grow_table;

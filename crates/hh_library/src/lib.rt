@@ -9,19 +9,14 @@ mod hashing;
 mod items;
 
 pub use accumulator::Accumulator;
-pub use commands::add::{add_items, add_items_by, empty_summary};
-pub use commands::add_text::add_text;
+pub use commands::add::{add_items, empty_summary};
 pub use commands::confirm::confirm;
-pub use commands::confirm_share::confirm_share;
 pub use commands::count_items::{condense_items, confirm_items};
 pub use commands::entries::list_entries;
 pub use commands::grow_table::empty_table;
-pub use commands::keys::{ask_key, ask_keys};
 pub use commands::laid_out::{
     TextRecords, add_records, condense_bounded, confirm_bounded, report_bytes,
 };
-pub use commands::plain::{
-    ask_bytes, condense_bytes, confirm_bytes, list_keys, summary_bytes, table_bytes,
-};
+pub use commands::plain::{ask_bytes, condense_bytes, confirm_bytes, summary_bytes, table_bytes};
 pub use hashing::hash_of;
 pub use items::item_fault;

@@ -1,10 +1,9 @@
 //! Summaries that begin empty, and saved files that grow by items.
 
-ghost use Rattle.std.specs.Prelude.{◌≡◌, IfErr, IfOk, IfSome, OnOk, Ok, Err};
-ghost use Rattle.hh_library.specs.Add.{AddsItems, GoesOn, IsAdded, IsEmpty, TableGoesOn, entries};
+ghost use Rattle.std.specs.Prelude.{◌≡◌, IfErr, IfOk, OnOk, Ok, Err};
+ghost use Rattle.hh_library.specs.Add.{GoesOn, IsAdded, TableGoesOn, entries};
 ghost use Rattle.hh_library.specs.Add.{added, added_to, empty_of};
 ghost use Rattle.hh_commands.specs.Files.{Refuses, StopsAtHead};
-ghost use Rattle.hh_commands.specs.Summarise.{bad_k};
 
 use crate::accumulator::Accumulator;
 use hh_commands::file_of;
@@ -12,26 +11,28 @@ use hh_counters::laws::summaries_follow_items;
 use hh_counters::{MAX_K, Summary};
 use hh_countmin::laws::tables_follow_items;
 use hh_faults::ToolError;
-use hh_saved::{Saved, write};
+use hh_saved::Saved;
 use hh_stream::{KeyHash, in_range};
 use std::alloc::Global;
 
-/// The saved summary of no items, with k counters.
-pub fn empty_summary(alloc: Global, k: u64) -> Result<Vec<u8>, ToolError>
-    ensures saved { IfOk result (λ bytes. IsEmpty k bytes.items) }
-    ensures refused { IfErr result (Refuses (empty_of k)) }
-    ensures bad_k { IfSome (bad_k k) (λ fault. result ≡ Err fault) }
+/// The summary of no items, with k counters.
+pub fn empty_summary(alloc: Global, k: u64) -> Result<Saved, ToolError>
+    ensures value { IfOk result (λ saved. empty_of k ≡ Ok saved) }
+    ensures refused { IfErr result (λ fault. empty_of k ≡ Err fault) }
 {
     if !in_range(k, MAX_K) {
         return Err(ToolError::BadK);
     }
     summaries_follow_items();
-    let summary = Summary::empty(alloc, k);
-    Ok(write(alloc, &Saved::Counters(summary))?)
+    Ok(Saved::Counters(Summary::empty(alloc, k)))
 }
 
 /// Adds items in order, numbered from 1.
-fn add_all(alloc: Global, value: &mut Accumulator, items: &[(&[u8], u64)]) -> Result<(), ToolError>
+pub(crate) fn add_all(
+    alloc: Global,
+    value: &mut Accumulator,
+    items: &[(&[u8], u64)],
+) -> Result<(), ToolError>
     ensures added { OnOk result (added_to value.old (entries items.now) ≡ Ok value.new) }
     ensures refused { IfErr result (Refuses (added_to value.old (entries items.now))) }
 {
@@ -57,24 +58,9 @@ pub fn add_items(alloc: Global, file: &[u8], items: &[(&[u8], u64)]) -> Result<V
     ensures refused { IfErr result (Refuses (added file.now (entries items.now))) }
     ensures early { StopsAtHead 1 file.now result }
 {
-    add_items_by(alloc, file, items, KeyHash::fixed())
-}
-
-/// [`add_items`], where many items are added to a summary by a monitor whose keys are hashed by
-/// `hash`. The answer doesn't depend on it.
-pub fn add_items_by(
-    alloc: Global,
-    file: &[u8],
-    items: &[(&[u8], u64)],
-    hash: KeyHash,
-) -> Result<Vec<u8>, ToolError>
-    ensures saved { IfOk result (λ bytes. AddsItems file.now (entries items.now) bytes.items) }
-    ensures refused { IfErr result (Refuses (added file.now (entries items.now))) }
-    ensures early { StopsAtHead 1 file.now result }
-{
     summaries_follow_items();
     tables_follow_items();
-    let mut value = Accumulator::of(file_of(alloc, 1, file)?, hash);
+    let mut value = Accumulator::of(file_of(alloc, 1, file)?, KeyHash::fixed());
     add_all(alloc, &mut value, items)?;
     value.save(alloc)
 }

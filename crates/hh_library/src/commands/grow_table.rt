@@ -1,7 +1,7 @@
 //! Tables that begin empty.
 
-ghost use Rattle.std.specs.Prelude.{◌≡◌, IfErr, IfOk, IfSome, Err};
-ghost use Rattle.hh_library.specs.Add.{IsEmptyTable, empty_table_of};
+ghost use Rattle.std.specs.Prelude.{◌≡◌, IfErr, IfOk, IfSome, Ok, Err};
+ghost use Rattle.hh_library.specs.Add.{empty_table_of};
 ghost use Rattle.hh_commands.specs.Files.{Refuses};
 ghost use Rattle.hh_commands.specs.Table.{bad_table};
 
@@ -9,14 +9,14 @@ use hh_commands::drawn_table;
 use hh_countmin::laws::tables_follow_items;
 use hh_countmin::{MAX_DEPTH, MAX_WIDTH};
 use hh_faults::ToolError;
-use hh_saved::{Saved, write};
+use hh_saved::Saved;
 use hh_stream::in_range;
 use std::alloc::Global;
 
-/// The saved table of no items, with the hash family that is drawn from the seed. The depth is
-/// tested first, and then the width.
-pub fn empty_table(alloc: Global, width: u64, depth: u64, seed: u64) -> Result<Vec<u8>, ToolError>
-    ensures saved { IfOk result (λ bytes. IsEmptyTable width depth seed bytes.items) }
+/// The table of no items, with the hash family that is drawn from the seed. The depth is tested
+/// first, and then the width.
+pub fn empty_table(alloc: Global, width: u64, depth: u64, seed: u64) -> Result<Saved, ToolError>
+    ensures value { IfOk result (λ saved. empty_table_of width depth seed ≡ Ok saved) }
     ensures refused { IfErr result (Refuses (empty_table_of width depth seed)) }
     ensures bad_table { IfSome (bad_table depth width) (λ fault. result ≡ Err fault) }
 {
@@ -27,6 +27,5 @@ pub fn empty_table(alloc: Global, width: u64, depth: u64, seed: u64) -> Result<V
         return Err(ToolError::BadWidth);
     }
     tables_follow_items();
-    let table = drawn_table(alloc, width, depth, seed)?;
-    Ok(write(alloc, &Saved::Cells(table))?)
+    Ok(Saved::Cells(drawn_table(alloc, width, depth, seed)?))
 }

@@ -1,17 +1,16 @@
-//! The numbers that a saved file tells of keys.
+//! The numbers that a value tells of keys.
 
-ghost use Rattle.std.specs.Prelude.{◌≡◌, Ok, None, IfOk, IfErr, map, vec_items};
-ghost use Rattle.hh_commands.specs.Ask.{answer, answer_of, answers_of, bad_key};
-ghost use Rattle.hh_commands.specs.Files.{Refuses, StopsAtHead};
+ghost use Rattle.std.specs.Prelude.{◌≡◌, Some, None, IfOk, IfErr, OnOk, map, vec_items};
+ghost use Rattle.hh_commands.specs.Ask.{answer_of, bad_key};
 
-use hh_commands::{answer_of, check_key, file_of, read_for_keys, slack_of};
+use hh_commands::{answer_of, check_key, slack_of};
 use hh_faults::ToolError;
 use hh_saved::Saved;
 use hh_stream::Key;
 use std::alloc::{AllocError, Global};
 
 /// The two numbers of words that passed their tests.
-fn answers_of(
+pub(crate) fn answers_of(
     alloc: Global,
     saved: &Saved,
     words: &[Vec<u8>],
@@ -29,30 +28,13 @@ fn answers_of(
     Ok(answers)
 }
 
-/// The least and the most that each key's weight in the stream can be, as a saved file tells: the
-/// numbers of the rows of [`ask_bytes`](crate::ask_bytes), with the same refusals in the same
-/// order.
-pub fn ask_keys(alloc: Global, file: &[u8], keys: &[Vec<u8>]) -> Result<Vec<(u64, u64)>, ToolError>
-    ensures bounds { IfOk result (λ bounds.
-        answers_of file.now (map vec_items keys.now) ≡ Ok bounds.items) }
-    ensures refused { IfErr result (λ fault.
-        Refuses (answers_of file.now (map vec_items keys.now)) fault) }
-    ensures early { StopsAtHead 1 file.now result }
+/// Tests that each of `words` can be a key, in order, numbered from 1.
+pub(crate) fn check_keys(words: &[Vec<u8>]) -> Result<(), ToolError>
+    ensures passes { OnOk result (bad_key 1 (map vec_items words.now) ≡ None) }
+    ensures refused { IfErr result (λ fault. bad_key 1 (map vec_items words.now) ≡ Some fault) }
 {
-    let saved = read_for_keys(alloc, file, keys)?;
-    Ok(answers_of(alloc, &saved, keys)?)
-}
-
-/// The least and the most that a key's weight in the stream can be, as a saved file tells: the two
-/// numbers of the key's row of [`ask_bytes`](crate::ask_bytes), with the same refusals in the same
-/// order, where the key is number 1.
-pub fn ask_key(alloc: Global, file: &[u8], key: &[u8]) -> Result<(u64, u64), ToolError>
-    ensures bounds { IfOk result (λ bounds. answer file.now key.now ≡ Ok bounds) }
-    ensures refused { IfErr result (λ fault. Refuses (answer file.now key.now) fault) }
-    ensures early { StopsAtHead 1 file.now result }
-{
-    let saved = file_of(alloc, 1, file)?;
-    check_key(1, key)?;
-    let key = Key::of_bytes(alloc, key)?;
-    Ok(answer_of(&saved, slack_of(&saved), &key))
+    for i in 0..words.len() {
+        check_key(i as u64 + 1, &words[i])?;
+    }
+    Ok(())
 }

@@ -1,6 +1,8 @@
 //! Calls over the records of a text whose keys and weights stand in columns of one's own.
 
 ghost use Rattle.std.specs.Prelude.{◌≡◌, ◌*◌, ◌+◌, ◌≤◌, true, List, Ok, IfErr, IfOk, IfSome, Err};
+ghost use Rattle.std.specs.Prelude.{OnErr, OnOk};
+ghost use Rattle.hh_library.specs.Add.{entries};
 ghost use Rattle.hh_stream.specs.Ranges.{in_range};
 ghost use Rattle.hh_stream.specs.Weights.{Entry, total_of};
 ghost use Rattle.hh_summaries.specs.Counters.{max_k};
@@ -13,7 +15,7 @@ ghost use Rattle.hh_library.specs.LaidOut.{CondensesBounded, ConfirmBoundedRefus
 ghost use Rattle.hh_library.specs.LaidOut.{ConfirmsBounded, ReportsRows, bad_report};
 ghost use Rattle.hh_library.specs.LaidOut.{rows_in_units, text_laid};
 
-use crate::commands::add_text::{add_stream, check_file};
+use crate::accumulator::Accumulator;
 use crate::commands::count_items::share_or_least;
 use hh_commands::{
     Comparison, condensed_records, confirmed_text, count_records, rows_above,
@@ -26,7 +28,7 @@ use hh_pieces::read_texts;
 use hh_records::{Layout, ReadRecords};
 use hh_rows::{RowOptions, printed_text};
 use hh_stream::{KeyHash, Stream, TakeItems, in_range};
-use std::alloc::Global;
+use std::alloc::{AllocError, Global};
 
 /// The records of a text in memory, which can be read again.
 #[derive(Clone, Copy)]
@@ -57,21 +59,32 @@ fn stream_of<R: ReadRecords>(alloc: Global, records: R) -> Result<Stream, ToolEr
     Ok(records.read_into(alloc, Stream::new(alloc))?)
 }
 
-/// [`add_items`](crate::add_items) of some records. The file is tested first, then the records, and
-/// then their items, of which the first that makes the total too large is refused.
+/// The items of a stream, as they are added.
+fn items_in<'a>(alloc: Global, stream: &'a Stream) -> Result<Vec<(&'a [u8], u64)>, AllocError>
+    ensures { IfOk result (λ items. entries items.items ≡ stream.now) }
+{
+    let mut items: Vec<(&[u8], u64)> = Vec::new(alloc);
+    for item in stream.items() {
+        items.push((item.key().bytes(), item.weight()))?;
+    }
+    Ok(items)
+}
+
+/// Adds the items of some records to a value, all of them, or after a refusal none. The records are
+/// tested first, and then their items, of which the first that makes the total too large is
+/// refused.
 pub fn add_records<R: ReadRecords>(
     alloc: Global,
-    file: &[u8],
+    value: &mut Accumulator,
     records: R,
-) -> Result<Vec<u8>, ToolError>
-    ensures saved { IfOk result (λ bytes. AddsRecords file.now (R.known records) bytes.items) }
-    ensures refused { IfErr result (AddRecordsRefused file.now (R.known records)) }
-    ensures early { StopsAtHead 1 file.now result }
+) -> Result<(), ToolError>
+    ensures added { OnOk result (AddsRecords value.old (R.known records) value.new) }
+    ensures refused { IfErr result (AddRecordsRefused value.old (R.known records)) }
+    ensures unchanged { OnErr result (value.new ≡ value.old) }
 {
-    let hash = records.hash();
-    check_file(alloc, file)?;
     let stream = stream_of(alloc, records)?;
-    add_stream(alloc, file, &stream, hash)
+    let items = items_in(alloc, &stream)?;
+    value.add_items(alloc, &items)
 }
 
 /// All rows with this many digits of a weight after its point, and no shares.

@@ -10,15 +10,14 @@ ghost use Rattle.hh_saved.specs.declared.saved.Saved.TheVariants.{Cells, Counter
 ghost use Rattle.hh_commands.specs.Ask.{answers};
 ghost use Rattle.hh_commands.specs.Condense.{CondenseRefused, CondensesRows};
 ghost use Rattle.hh_commands.specs.Confirm.{ConfirmRefused, ConfirmsRows};
-ghost use Rattle.hh_commands.specs.Files.{Refuses, StopsAtHead, SummaryRefused};
-ghost use Rattle.hh_commands.specs.List.{ListsKeys};
+ghost use Rattle.hh_commands.specs.Files.{Refuses, StopsAtHead};
 ghost use Rattle.hh_commands.specs.Records.{SavesStream};
 ghost use Rattle.hh_commands.specs.Summarise.{bad_k};
 ghost use Rattle.hh_commands.specs.Table.{bad_table};
 
 use crate::commands::confirm::confirm_records;
 use hh_commands::{
-    Comparison, Method, ask_rows, condense_bytes_from, list_rows, summary_bytes_from, summary_in,
+    Comparison, Method, ask_rows, condense_bytes_from, summary_bytes_from, summary_in,
     table_bytes_from,
 };
 use hh_faults::ToolError;
@@ -69,15 +68,6 @@ pub fn ask_bytes(alloc: Global, file: &[u8], keys: &[Vec<u8>]) -> Result<Vec<u8>
     ensures early { StopsAtHead 1 file.now result }
 {
     ask_rows(alloc, file, keys, 0)
-}
-
-/// [`list_rows`](hh_commands::list_rows) with whole numbers.
-pub fn list_keys(alloc: Global, file: &[u8]) -> Result<Vec<u8>, ToolError>
-    ensures rows { IfOk result (λ rows. ListsKeys file.now rows.items) }
-    ensures refused { IfErr result (λ fault. SummaryRefused file.now fault) }
-    ensures early { StopsAtHead 1 file.now result }
-{
-    list_rows(alloc, file, 0)
 }
 
 /// [`condense_bytes_from`](hh_commands::condense_bytes_from) of the records of a reader, where a
