@@ -14,12 +14,12 @@ ghost use Rattle.heavy_requests.specs.Request.{word_given};
 use crate::fields::split_fields;
 use crate::usage_report::{UsageReport, usage_report_of};
 use clap::ArgMatches;
-use heavy_arguments::{
+use heavy_arguments::arguments::{
     ALLOW_ZERO, BAD_AS, DECIMALS, DELIMITER, DEPTH, EXPLAIN, GREATEST, HEADER, JSON, K, KEY, KEYS,
-    LINES, METHOD, NAMES, NO_QUOTES, Named, OUTPUT, PIECES, PLAN, PREFIX, PROGRESS, Pass, RECORDS,
-    SAVED_FILES, SEED, SHARE, SQUEEZE, THRESHOLD, TOP, TREE, UNTIL, Verb, WEIGHT, WIDTH,
-    command_line,
+    LINES, METHOD, NAMES, NO_QUOTES, OUTPUT, PIECES, PLAN, PREFIX, PROGRESS, RECORDS, SAVED_FILES,
+    SEED, SHARE, SQUEEZE, THRESHOLD, TOP, TREE, UNTIL, WEIGHT, WIDTH,
 };
+use heavy_arguments::{Named, Pass, Verb, command_line};
 use heavy_host::{WordSource, bytes_of, read_words, texts_of};
 use hh_records::{Format, LayoutWords, delimiter_of};
 use hh_rows::{Form, Output, ReportOptions, RowOptions, Share, Tree};
