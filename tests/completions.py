@@ -1,6 +1,7 @@
 #!/usr/bin/env python3
 """Makes the completions of three shells and the man page's synopsis from the program's help, and compares them with the
-files; and the man page's commands, options, ranges, defaults and version with the help. The bash completion is driven
+files; and the man page's commands, options, ranges, defaults and version with the help. A paragraph that the man page lacks
+is made of the help too; more may be written below it. The bash completion is driven
 by bash, and that of fish by fish where it is here. On a terminal each shell that is here completes a command, an option
 and its value. Then drifts are planted, and each has to be found.
 
@@ -63,6 +64,11 @@ DRIFTS = [
 ]
 
 
+def dashes(text: str) -> str:
+    """A text of the man page: each hyphen is one that can be typed."""
+    return text.replace("-", "\\-")
+
+
 @dataclass(frozen=True)
 class Option:
     """An option as help has it; of a flag there is no value."""
@@ -79,8 +85,17 @@ class Option:
         """What is said of it, without a default, and without what `--help` says besides."""
         return re.sub(r" (\[default: .*\]|\(see more .*\))$", "", self.text)
 
+    def paragraph(self) -> str:
+        """What the man page has of it at least."""
+        letter = f'\\-{self.letter} ", " ' if self.letter else ""
+        value = (f' " \\fI{self.value}\\fR"' if self.letter else f' " {self.value}"') if self.value else ""
+        macro = ".BR" if self.letter else ".BI" if self.value else ".B"
+        default = re.search(r" \[default: (.*)\]", self.text)
+        said = dashes(f"{self.about()}.\n" + (f"Default {default[1]}.\n" if default else ""))
+        return f".TP\n{macro} {letter}\\-\\-{dashes(self.name)}{value}\n{said}"
+
     def synopsis(self) -> str:
-        name = self.name.replace("-", "\\-")
+        name = dashes(self.name)
         if not self.value:
             return f".RB [ \\-\\-{name} ]\n"
         value = VALUES.get(self.name, self.value) if self.name == "method" else self.value
@@ -258,8 +273,15 @@ def fish_quoted(text: str) -> str:
     return f"'{escaped}'"
 
 
+def with_paragraphs(text: str, made: dict[str, str], end: str) -> str:
+    """The man page with those of these paragraphs, by what each is of, that it lacks, before this line."""
+    heads = "".join(re.findall(r"^\.TP\n(\.B.*\n)", text, re.MULTILINE))
+    lacking = "".join(it for name, it in made.items() if not re.search(rf"{re.escape(name)}(?![\\\w])", heads))
+    return text.replace(end, lacking + end, 1)
+
+
 def made_man(told: Told) -> str:
-    """The man page with the synopsis that help says."""
+    """The man page with the synopsis that help says, and a paragraph for each command and option."""
     synopsis = []
     for name, shown in told.own().items():
         options = "".join(option.synopsis() for option in shown.options if option.name != "help")
@@ -272,7 +294,10 @@ def made_man(told: Told) -> str:
     whole = ".br\n".join([*synopsis, ".B heavy help\n.RI [ COMMAND ]\n"])
     text = (programs.TOP / MAN).read_text()
     begin, end = text.index(".SH SYNOPSIS\n") + len(".SH SYNOPSIS\n"), text.index(".SH DESCRIPTION\n")
-    return text[:begin] + whole + text[end:]
+    rest = with_paragraphs(text[end:], {f"heavy {name}": f".TP\n.B heavy {name}\n{dashes(shown.about)}.\n"
+                                        for name, shown in told.own().items()}, ".TP\n.B heavy help\n")
+    options = {f"\\-\\-{dashes(it.name)}": it.paragraph() for shown in told.shown.values() for it in shown.options}
+    return text[:begin] + whole + with_paragraphs(rest, options, ".SS How records are read\n")
 
 
 MADE = {MAN: made_man, BASH: made_bash, ZSH: made_zsh, FISH: made_fish}
@@ -331,7 +356,8 @@ CHECKS = {MAN: man_faults, BASH: bash_faults}
 
 def faults_of(file: str, text: str, told: Told) -> list[str]:
     """Where a file's text is not what is made of help, or says something else."""
-    is_made = text == MADE[file](told) if file != MAN else text.partition(".SH DESCRIPTION")[0] in MADE[file](told)
+    made = MADE[file](told)
+    is_made = text == made if file != MAN else text.partition(".SH DESCRIPTION")[0] in made
     faults = [] if is_made else [f"{file} is not what tests/completions.py --write makes"]
     return faults + (CHECKS[file](text, told) if file in CHECKS else [])
 

@@ -1,6 +1,6 @@
 -- What answers a request, by the bytes that are given of the files that it names.
 use Rattle.std.specs.Io.KnownBytes.{Appends}
-use Rattle.std.specs.Prelude.{ℕ, ◌≡◌, ◌⊎◌, Bool, true, false, not, List, ◌∷◌, Option, Some, None, Ok, map}
+use Rattle.std.specs.Prelude.{ℕ, ◌≡◌, ◌⊎◌, ⊤, Bool, true, false, not, List, Option, Some, None, Ok, map}
 use Rattle.hh_summaries.specs.Counters.{sketch_of}
 use Rattle.hh_countmin.specs.Family.{drawn_family}
 use Rattle.hh_countmin.specs.Table.{table_of}
@@ -11,7 +11,6 @@ use Rattle.hh_saved.specs.declared.saved.Saved.TheVariants.{Cells, Counters}
 use Rattle.hh_records.specs.Streams.{Known}
 use Rattle.hh_records.specs.declared.layout.Layout.{Layout}
 use Rattle.hh_rows.specs.declared.printed.RowOptions.{RowOptions}
-use Rattle.hh_rows.specs.declared.report_options.ReportOptions.{ReportOptions}
 use Rattle.hh_rows.specs.declared.threshold.Share.{Share}
 use Rattle.hh_commands.specs.Ask.{answers_in}
 use Rattle.hh_commands.specs.Bounds.{ComparesBounds}
@@ -30,34 +29,15 @@ use Rattle.hh_files.specs.ReportFiles.{PrintsFileRows}
 use Rattle.hh_files.specs.SummaryFiles.{SavesSummary}
 use Rattle.hh_files.specs.TopFiles.{PrintsTop}
 use Rattle.heavy_host.specs.Files.{AreRead}
-use Rattle.heavy_requests.specs.Request.{are_plain}
-use Rattle.heavy_requests.specs.declared.request.Command.{Command}
-use Rattle.heavy_requests.specs.declared.request.Command.TheVariants.{Top, Summarise, Table, Merge, Ask, List as ListKeys, Describe, Condense, Confirm}
-use Rattle.heavy_requests.specs.declared.request.Invocation.{Invocation}
+use Rattle.heavy_arguments.specs.declared.verbs.Pass.{Pass}
+use Rattle.heavy_arguments.specs.declared.verbs.Pass.TheVariants as pass
+use Rattle.heavy_arguments.specs.declared.verbs.Verb.{Verb}
+use Rattle.heavy_arguments.specs.declared.verbs.Verb.TheVariants as verb
+use Rattle.heavy_requests.specs.Request.{are_plain, first_file}
+use Rattle.heavy_requests.specs.declared.request.Asked.{Asked}
 use Rattle.heavy_requests.specs.declared.request.RecordWords.{RecordWords}
-use Rattle.heavy_requests.specs.declared.request.Request.{Request}
-use Rattle.heavy_requests.specs.declared.request.Request.TheVariants.{Report, Answer}
 use Rattle.heavy_answers.specs.Columns.{bound_columns, bytes_in, report_columns, value_columns, weight_columns}
 use Rattle.heavy_answers.specs.Inputs.{AreRecords}
-use Rattle.heavy_answers.specs.declared.single_pass.SinglePass.{SinglePass}
-use Rattle.heavy_answers.specs.declared.single_pass.SinglePass.TheVariants as one
-
--- the names of the columns of the rows that a command prints; a saved file has none
-abbrev pub columns_of_command : Command → Option (List (List ℕ))
-columns_of_command (Top n rows workers memory) = Some (report_columns rows)
-columns_of_command (Summarise k method workers) = None
-columns_of_command (Table width depth seed workers) = None
-columns_of_command (Merge first others) = None
-columns_of_command (Ask name keys decimals) = Some bound_columns
-columns_of_command (ListKeys name decimals) = Some bound_columns
-columns_of_command (Describe name) = Some value_columns
-columns_of_command (Condense name workers) = Some weight_columns
-columns_of_command (Confirm name share rows workers) = Some (report_columns rows)
-
--- the names of the columns of the rows that are printed for a request
-abbrev pub columns_of : Request → Option (List (List ℕ))
-columns_of (Report options rows by_plan) = Some (report_columns rows)
-columns_of (Answer command) = columns_of_command command
 
 -- of the records that the words name this is made
 pub record OfRecords (opens : Bool → List ℕ → Option (List ℕ) → Type 0) (words : RecordWords) (Makes : Layout → Known → Type 0) : Type 0 where
@@ -93,13 +73,15 @@ abbrev pub Confirms : List ℕ → Share → RowOptions → Bool → Option Outs
 Confirms file share rows refuses outside known bytes =
     ConfirmsPrinted rows share file known bytes × ComparesBounds refuses bounds.Both file known outside
 
--- a command makes this of the records in one pass, where a key outside its bounds may refuse
-abbrev pub MakesInOnePass : SinglePass → Bool → Option Outside → ℕ → Layout → Known → List ℕ → Type 0
-MakesInOnePass (one.Summarise k method) refuses outside workers layout known bytes = SavesByWorkers k workers known bytes
-MakesInOnePass (one.Table width depth seed) refuses outside workers layout known bytes = SavesTable width depth seed known bytes
-MakesInOnePass (one.Condense file) refuses outside workers layout known bytes = Condenses file.now refuses outside layout known bytes
-MakesInOnePass (one.Confirm file share rows) refuses outside workers layout known bytes =
-    Confirms file.now share.now rows.now refuses outside known bytes
+-- a pass by this saved file makes this of the records, where a key outside its bounds may refuse
+abbrev pub MakesInOnePass : Pass → Asked → List ℕ → Bool → Option Outside → Layout → Known → List ℕ → Type 0
+MakesInOnePass pass.Summarise asked file refuses outside layout known bytes =
+    SavesByWorkers asked.options.k asked.options.workers known bytes
+MakesInOnePass pass.Table asked file refuses outside layout known bytes =
+    SavesTable asked.options.width asked.options.depth asked.options.seed known bytes
+MakesInOnePass pass.Condense asked file refuses outside layout known bytes = Condenses file refuses outside layout known bytes
+MakesInOnePass pass.Confirm asked file refuses outside layout known bytes =
+    Confirms file asked.options.threshold asked.rows refuses outside known bytes
 
 -- where a plan was asked for the first holds, and else, by tallies, the second
 pub record ByPlan (by_plan : Bool) (Planned Tallied : Type 0) : Type 0 where
@@ -107,58 +89,67 @@ pub record ByPlan (by_plan : Bool) (Planned Tallied : Type 0) : Type 0 where
   pub tallied : by_plan ≡ false → Tallied
 
 -- these are the rows of the report of the records: by the plan that was asked for, or by tallies
-abbrev pub PrintsReport : ReportOptions → RowOptions → Bool → Known → List ℕ → Type 0
-PrintsReport options rows by_plan known bytes =
-    AreOptions options × ByPlan by_plan (PrintsRows rows options known bytes) (PrintsFileRows rows options known bytes)
+abbrev pub PrintsReport : Asked → Known → List ℕ → Type 0
+PrintsReport asked known bytes =
+    AreOptions asked.options × ByPlan asked.by_plan (PrintsRows asked.rows asked.options known bytes)
+    (PrintsFileRows asked.rows asked.options known bytes)
 
--- this holds of the saved file with this name
-abbrev pub OfSaved : (List ℕ → Option (List ℕ) → Type 0) → List ℕ → (List ℕ → Type 0) → Type 0
-OfSaved gives name Holds = (file : List ℕ) × gives name (Some file) × Holds file
+-- this holds of the first saved file
+abbrev pub OfSaved : (List ℕ → Option (List ℕ) → Type 0) → Asked → (List ℕ → Type 0) → Type 0
+OfSaved gives asked Holds = (file : List ℕ) × gives (first_file asked) (Some file) × Holds file
 
 -- a method has this name
 abbrev pub NamesMethod : List ℕ → Type 0
 NamesMethod word = (method : Method) × (word ≡ word_of method)
 
--- the bytes answer the command
-abbrev pub AnswersCommand : (List ℕ → Option (List ℕ) → Type 0) → (Bool → List ℕ → Option (List ℕ) → Type 0) → Command → RecordWords
-    → Bool → Option Outside → List ℕ → Type 0
-AnswersCommand gives opens (Top n rows workers memory) words refuses outside bytes =
-    OfRecords opens words (λ _ known. PrintsTop rows n known bytes)
-AnswersCommand gives opens (Summarise k method workers) words refuses outside bytes =
-    NamesMethod method.items × OfRecords opens words (λ _ known. SavesByWorkers k workers known bytes)
-AnswersCommand gives opens (Table width depth seed workers) words refuses outside bytes =
-    OfRecords opens words (λ _ known. SavesTable width depth seed known bytes)
-AnswersCommand gives opens (Merge first others) words refuses outside bytes =
-    MakesMerge gives (first.items ∷ map (λ w. w.items) others.items) bytes
-AnswersCommand gives opens (Ask name keys decimals) words refuses outside bytes =
-    OfSaved gives name.items (λ file. answers_in decimals file (map (λ w. w.items) keys.items) ≡ Ok bytes)
-AnswersCommand gives opens (ListKeys name decimals) words refuses outside bytes =
-    OfSaved gives name.items (λ file. ListsRows decimals file bytes)
-AnswersCommand gives opens (Describe name) words refuses outside bytes = OfSaved gives name.items (λ file. description file ≡ Ok bytes)
-AnswersCommand gives opens (Condense name workers) words refuses outside bytes =
-    OfSaved gives name.items
-    (λ file. OfRecords opens words (λ layout known. Condenses file refuses outside layout known bytes))
-AnswersCommand gives opens (Confirm name share rows workers) words refuses outside bytes =
-    OfSaved gives name.items
-    (λ file. OfRecords opens words (λ _ known. Confirms file share rows refuses outside known bytes))
+-- a pass goes by this saved file: a summary and a table by none, and a summary has a method
+abbrev pub IsFileOf : (List ℕ → Option (List ℕ) → Type 0) → Pass → Asked → List ℕ → Type 0
+IsFileOf gives pass.Summarise asked file = NamesMethod asked.method.items
+IsFileOf gives pass.Table asked file = ⊤
+IsFileOf gives pass.Condense asked file = gives (first_file asked) (Some file)
+IsFileOf gives pass.Confirm asked file = gives (first_file asked) (Some file)
 
--- the bytes are what the request asks for of the files that it names, rows as CSV
-abbrev pub AnswersRequest : (List ℕ → Option (List ℕ) → Type 0) → (Bool → List ℕ → Option (List ℕ) → Type 0) → Request
-    → RecordWords → Bool → Option Outside → List ℕ → Type 0
-AnswersRequest gives opens (Report options rows by_plan) words refuses outside bytes =
-    OfRecords opens words (λ _ known. PrintsReport options rows by_plan known bytes)
-AnswersRequest gives opens (Answer command) words refuses outside bytes =
-    AnswersCommand gives opens command words refuses outside bytes
+-- a pass makes this of the records that are asked for
+abbrev pub MakesPass : (List ℕ → Option (List ℕ) → Type 0) → (Bool → List ℕ → Option (List ℕ) → Type 0) → Pass → Asked
+    → Bool → Option Outside → List ℕ → Type 0
+MakesPass gives opens pass asked refuses outside bytes =
+    (file : List ℕ) × IsFileOf gives pass asked file
+    × OfRecords opens asked.records (λ layout known. MakesInOnePass pass asked file refuses outside layout known bytes)
+
+-- the bytes are what a command makes that does this, rows as CSV
+abbrev pub Answers : (List ℕ → Option (List ℕ) → Type 0) → (Bool → List ℕ → Option (List ℕ) → Type 0) → Verb → Asked
+    → Bool → Option Outside → List ℕ → Type 0
+Answers gives opens verb.Report asked refuses outside bytes = OfRecords opens asked.records (λ _ known. PrintsReport asked known bytes)
+Answers gives opens verb.Top asked refuses outside bytes =
+    OfRecords opens asked.records (λ _ known. PrintsTop asked.rows asked.greatest known bytes)
+Answers gives opens (verb.Pass pass) asked refuses outside bytes = MakesPass gives opens pass asked refuses outside bytes
+Answers gives opens verb.Merge asked refuses outside bytes = MakesMerge gives (map (λ w. w.items) asked.files.items) bytes
+Answers gives opens verb.Ask asked refuses outside bytes =
+    OfSaved gives asked (λ file. answers_in asked.rows.decimals file (map (λ w. w.items) asked.keys.items) ≡ Ok bytes)
+Answers gives opens verb.List asked refuses outside bytes = OfSaved gives asked (λ file. ListsRows asked.rows.decimals file bytes)
+Answers gives opens verb.Describe asked refuses outside bytes = OfSaved gives asked (λ file. description file ≡ Ok bytes)
 
 -- whether a key whose weight contradicts a saved summary refuses the records: all but plain ones on standard input
 abbrev pub refuses_contradictions : RecordWords → Bool
 refuses_contradictions words = not (are_plain words)
 
--- what was asked for on the command line was answered: what answers the request was written in the form that is asked for,
--- and nothing else
-abbrev pub IsAnswered : (List ℕ → Option (List ℕ) → Type 0) → (Bool → List ℕ → Option (List ℕ) → Type 0) → Invocation
+-- the names of the columns of the rows that a command prints which does this; a saved file has none
+abbrev pub columns_of : Verb → RowOptions → Option (List (List ℕ))
+columns_of verb.Report rows = Some (report_columns rows)
+columns_of verb.Top rows = Some (report_columns rows)
+columns_of (verb.Pass pass.Summarise) rows = None
+columns_of (verb.Pass pass.Table) rows = None
+columns_of (verb.Pass pass.Condense) rows = Some weight_columns
+columns_of (verb.Pass pass.Confirm) rows = Some (report_columns rows)
+columns_of verb.Merge rows = None
+columns_of verb.Ask rows = Some bound_columns
+columns_of verb.List rows = Some bound_columns
+columns_of verb.Describe rows = Some value_columns
+
+-- what was asked for on the command line was answered: what answers it was written in the form that is asked for, and nothing
+-- else
+abbrev pub IsAnswered : (List ℕ → Option (List ℕ) → Type 0) → (Bool → List ℕ → Option (List ℕ) → Type 0) → Asked
     → Option Outside → Option (List ℕ) → Option (List ℕ) → Type 0
 IsAnswered gives opens asked outside old new =
-    (bytes : List ℕ)
-    × AnswersRequest gives opens asked.request asked.records (refuses_contradictions asked.records) outside bytes
-    × Appends old new (bytes_in asked.output (columns_of asked.request) bytes)
+    (bytes : List ℕ) × Answers gives opens asked.verb asked (refuses_contradictions asked.records) outside bytes
+    × Appends old new (bytes_in asked.output (columns_of asked.verb asked.rows) bytes)

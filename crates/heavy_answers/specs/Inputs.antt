@@ -8,6 +8,7 @@ use Rattle.hh_records.specs.LayoutWords.{SaysLayout}
 use Rattle.hh_records.specs.Streams.{Known}
 use Rattle.hh_records.specs.declared.layout.Layout.{Layout}
 use Rattle.heavy_host.specs.Opening.{names_standard}
+use Rattle.heavy_requests.specs.declared.request.Asked.{Asked}
 use Rattle.heavy_requests.specs.declared.request.RecordWords.{RecordWords}
 use Rattle.heavy_answers.specs.declared.opening.OnePass.{OnePass}
 use Rattle.heavy_answers.specs.declared.opening.OnePass.TheVariants as pass
@@ -48,8 +49,8 @@ pub record AreRecords (opens : Bool → List ℕ → Option (List ℕ) → Type 
 
 -- the records are those that the words name, where the number of workers is not refused
 abbrev pub IsReadOnce : {R F : Type 0} → (Bool → List ℕ → Option (List ℕ) → Type 0) → (R → Option (List ℕ)) → (F → Option (List ℕ))
-    → RecordWords → ℕ → OnePass R F → Type 0
-IsReadOnce opens remaining bytes words workers (pass.Files sources) =
-    in_range workers max_workers ≡ true → AreRecords opens words sources.layout (texts_known bytes sources.layout sources.files.items)
-IsReadOnce opens remaining bytes words workers (pass.Stream records) =
-    AreRecords opens words records.layout (records_known remaining records) × (in_range workers max_workers ≡ true)
+    → Asked → OnePass R F → Type 0
+IsReadOnce opens remaining bytes asked (pass.Files sources) =
+    in_range asked.options.workers max_workers ≡ true → AreRecords opens asked.records sources.layout (texts_known bytes sources.layout sources.files.items)
+IsReadOnce opens remaining bytes asked (pass.Stream records) =
+    AreRecords opens asked.records records.layout (records_known remaining records) × (in_range asked.options.workers max_workers ≡ true)

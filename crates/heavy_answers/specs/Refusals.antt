@@ -8,7 +8,6 @@ use Rattle.hh_records.specs.Refusals.{RefusedAfter}
 use Rattle.hh_records.specs.Streams.{Known}
 use Rattle.hh_records.specs.declared.layout.Layout.{Layout}
 use Rattle.hh_rows.specs.Sinks.{TakesFirst}
-use Rattle.hh_rows.specs.declared.report_options.ReportOptions.{ReportOptions}
 use Rattle.hh_rows.specs.declared.threshold.Share.{Share}
 use Rattle.hh_faults.specs.declared.error.ToolError.{ToolError}
 use Rattle.hh_faults.specs.declared.error.ToolError.TheVariants as tool
@@ -27,17 +26,15 @@ use Rattle.hh_files.specs.SummaryFiles.{bad_summary_of_files}
 use Rattle.hh_files.specs.TableFiles.{bad_table_of_files}
 use Rattle.hh_files.specs.TopFiles.{TopFilesRefused}
 use Rattle.heavy_host.specs.Files.{AreRead}
-use Rattle.heavy_requests.specs.declared.request.Command.{Command}
-use Rattle.heavy_requests.specs.declared.request.Command.TheVariants.{Top, Summarise, Table, Merge, Ask, List as ListKeys, Describe, Condense, Confirm}
-use Rattle.heavy_requests.specs.declared.request.Invocation.{Invocation}
-use Rattle.heavy_requests.specs.declared.request.RecordWords.{RecordWords}
-use Rattle.heavy_requests.specs.declared.request.Request.{Request}
-use Rattle.heavy_requests.specs.declared.request.Request.TheVariants.{Report, Answer}
-use Rattle.heavy_answers.specs.Answers.{AnswersRequest, OfRecords, columns_of, refuses_contradictions}
+use Rattle.heavy_arguments.specs.declared.verbs.Pass.{Pass}
+use Rattle.heavy_arguments.specs.declared.verbs.Pass.TheVariants as pass
+use Rattle.heavy_arguments.specs.declared.verbs.Verb.{Verb}
+use Rattle.heavy_arguments.specs.declared.verbs.Verb.TheVariants as verb
+use Rattle.heavy_requests.specs.Request.{first_file}
+use Rattle.heavy_requests.specs.declared.request.Asked.{Asked}
+use Rattle.heavy_answers.specs.Answers.{Answers, IsFileOf, OfRecords, columns_of, refuses_contradictions}
 use Rattle.heavy_answers.specs.Columns.{bytes_in}
 use Rattle.heavy_answers.specs.Inputs.{AreRecords, standard_name}
-use Rattle.heavy_answers.specs.declared.single_pass.SinglePass.{SinglePass}
-use Rattle.heavy_answers.specs.declared.single_pass.SinglePass.TheVariants as one
 
 -- the number of the input in this place after some saved files
 abbrev pub input_number : ℕ → ℕ → ℕ
@@ -57,27 +54,22 @@ IsUnopened unopened (name ∷ names) saved e = (place : ℕ) × IsUnopenedAt uno
 abbrev pub IsUnkept : ToolError → Type 0
 IsUnkept e = (e ≡ tool.Memory) ⊎ (e ≡ tool.ReadFault)
 
--- the inputs that the words name can't be opened: there is no memory, the words say no layout, or an input is not opened
-abbrev pub OpenRefused : (List ℕ → ℕ → ToolError → Type 0) → RecordWords → ℕ → ToolError → Type 0
-OpenRefused unopened words saved e =
-    (e ≡ tool.Memory) ⊎ LayoutRefused words.layout e ⊎ IsUnopened unopened (map (λ w. w.items) words.files.items) saved e
+-- the inputs that are asked for can't be opened: there is no memory, the words say no layout, or an input is not opened
+abbrev pub OpenRefused : (List ℕ → ℕ → ToolError → Type 0) → Asked → ToolError → Type 0
+OpenRefused unopened asked e =
+    (e ≡ tool.Memory) ⊎ LayoutRefused asked.records.layout e
+    ⊎ IsUnopened unopened (map (λ w. w.items) asked.records.files.items) (length asked.files.items) e
 
--- the records that the words name can't be had: the inputs can't be opened, or one can't be kept
-abbrev pub SourcesRefused : (List ℕ → ℕ → ToolError → Type 0) → RecordWords → ℕ → ToolError → Type 0
-SourcesRefused unopened words saved e = OpenRefused unopened words saved e ⊎ IsUnkept e
+-- the records that are asked for can't be had: the inputs can't be opened, or one can't be kept
+abbrev pub SourcesRefused : (List ℕ → ℕ → ToolError → Type 0) → Asked → ToolError → Type 0
+SourcesRefused unopened asked e = OpenRefused unopened asked e ⊎ IsUnkept e
 
--- the records that the words name, where the number of workers is not refused, fail so
-pub record RecordsFail (opens : Bool → List ℕ → Option (List ℕ) → Type 0) (words : RecordWords) (workers : ℕ) (Fails : Known → Type 0) : Type 0 where
+-- the records that are asked for, where the number of workers is not refused, fail so
+pub record RecordsFail (opens : Bool → List ℕ → Option (List ℕ) → Type 0) (asked : Asked) (Fails : Known → Type 0) : Type 0 where
   pub layout : Layout
   pub known : Known
-  pub records : in_range workers max_workers ≡ true → AreRecords opens words layout known
+  pub records : in_range asked.options.workers max_workers ≡ true → AreRecords opens asked.records layout known
   pub fails : Fails known
-
--- the records can't be had, or fail so
-abbrev pub ReadingFails : (Bool → List ℕ → Option (List ℕ) → Type 0) → (List ℕ → ℕ → ToolError → Type 0) → RecordWords → ℕ → ℕ
-    → (Known → ToolError → Type 0) → ToolError → Type 0
-ReadingFails opens unopened words saved workers Fails e =
-    SourcesRefused unopened words saved e ⊎ RecordsFail opens words workers (λ known. Fails known e)
 
 -- what a refusal to condense says, by workers over files or by one thread
 abbrev pub CondenseFails : Bool → ℕ → List ℕ → Known → ToolError → Type 0
@@ -91,23 +83,38 @@ ConfirmFails refuses share workers file known e =
     ConfirmFilesRefused refuses share workers file known e
     ⊎ ((in_range workers max_workers ≡ true) × ConfirmRowsRefused refuses share file known e)
 
--- what a refusal of a command says that reads its records once, by this number of workers
-abbrev pub FailsInOnePass : SinglePass → Bool → ℕ → Known → ToolError → Type 0
-FailsInOnePass (one.Summarise k method) refuses workers known e = RefusedAfter (bad_summary_of_files k workers) known e
-FailsInOnePass (one.Table width depth seed) refuses workers known e = RefusedAfter (bad_table_of_files depth width workers) known e
-FailsInOnePass (one.Condense file) refuses workers known e = CondenseFails refuses workers file.now known e
-FailsInOnePass (one.Confirm file share rows) refuses workers known e = ConfirmFails refuses share.now workers file.now known e
+-- what a refusal of a pass by this saved file says
+abbrev pub FailsInOnePass : Pass → Asked → List ℕ → Bool → Known → ToolError → Type 0
+FailsInOnePass pass.Summarise asked file refuses known e =
+    RefusedAfter (bad_summary_of_files asked.options.k asked.options.workers) known e
+FailsInOnePass pass.Table asked file refuses known e =
+    RefusedAfter (bad_table_of_files asked.options.depth asked.options.width asked.options.workers) known e
+FailsInOnePass pass.Condense asked file refuses known e = CondenseFails refuses asked.options.workers file known e
+FailsInOnePass pass.Confirm asked file refuses known e =
+    ConfirmFails refuses asked.options.threshold asked.options.workers file known e
 
 -- no method has this name
 abbrev pub NamesNoMethod : List ℕ → Type 0
 NamesNoMethod word = (method : Method) → word ≡ word_of method → ⊥
 
--- the summary is refused by its method, or of the records
-abbrev pub SummaryFails : (Bool → List ℕ → Option (List ℕ) → Type 0) → (List ℕ → ℕ → ToolError → Type 0) → RecordWords → ℕ → List ℕ → ℕ
-    → ToolError → Type 0
-SummaryFails opens unopened words k method workers e =
-    (NamesNoMethod method × (e ≡ tool.BadMethod))
-    ⊎ ReadingFails opens unopened words 0 workers (RefusedAfter (bad_summary_of_files k workers)) e
+-- there is no memory for the first saved file, or it can't be read
+abbrev pub IsUnread : (List ℕ → Option (List ℕ) → Type 0) → Asked → ToolError → Type 0
+IsUnread gives asked e = (e ≡ tool.Memory) ⊎ ((e ≡ tool.FileFault 1) × gives (first_file asked) None)
+
+-- a pass is refused before its records are opened: a summary by its method, and others by their saved file
+abbrev pub IsFileRefused : (List ℕ → Option (List ℕ) → Type 0) → Pass → Asked → ToolError → Type 0
+IsFileRefused gives pass.Summarise asked e = NamesNoMethod asked.method.items × (e ≡ tool.BadMethod)
+IsFileRefused gives pass.Table asked e = ⊥
+IsFileRefused gives pass.Condense asked e = IsUnread gives asked e
+IsFileRefused gives pass.Confirm asked e = IsUnread gives asked e
+
+-- a pass is refused: before its records are opened, since these can't be had, or as they fail
+abbrev pub PassFails : (List ℕ → Option (List ℕ) → Type 0) → (Bool → List ℕ → Option (List ℕ) → Type 0)
+    → (List ℕ → ℕ → ToolError → Type 0) → Pass → Asked → Bool → ToolError → Type 0
+PassFails gives opens unopened pass asked refuses e =
+    IsFileRefused gives pass asked e
+    ⊎ ((file : List ℕ) × IsFileOf gives pass asked file × (SourcesRefused unopened asked e
+    ⊎ RecordsFail opens asked (λ known. FailsInOnePass pass asked file refuses known e)))
 
 -- the bytes of a number of megabytes, or the greatest number
 abbrev pub bytes_of : ℕ → ℕ
@@ -115,13 +122,15 @@ bytes_of memory = min (memory * 1000000) (2 ^ 64 - 1)
 
 -- the greatest keys are refused: the inputs can't be opened, the workers are refused before anything is read, or behind them
 -- an input can't be kept; or the library refuses them
-abbrev pub TopFails : (Bool → List ℕ → Option (List ℕ) → Type 0) → (List ℕ → ℕ → ToolError → Type 0) → RecordWords → ℕ → ℕ → ℕ
-    → ToolError → Type 0
-TopFails opens unopened words n workers memory e =
-    OpenRefused unopened words 0 e ⊎ ((in_range workers max_workers ≡ false) × (e ≡ tool.BadWorkers))
-    ⊎ ((in_range workers max_workers ≡ true) × IsUnkept e)
-    ⊎ OfRecords opens words
-    (λ _ known. TopFilesRefused (record { n = n; workers = workers; memory = bytes_of memory }) known e)
+abbrev pub TopFails : (Bool → List ℕ → Option (List ℕ) → Type 0) → (List ℕ → ℕ → ToolError → Type 0) → Asked → ToolError → Type 0
+TopFails opens unopened asked e =
+    OpenRefused unopened asked e ⊎ ((in_range asked.options.workers max_workers ≡ false) × (e ≡ tool.BadWorkers))
+    ⊎ ((in_range asked.options.workers max_workers ≡ true) × IsUnkept e)
+    ⊎ OfRecords opens asked.records (λ _ known. TopFilesRefused (record {
+      n = asked.greatest;
+      workers = asked.options.workers;
+      memory = bytes_of asked.memory;
+    }) known e)
 
 -- the file in this place can't be read, which is reported by its number
 pub record IsUnreadAt (gives : List ℕ → Option (List ℕ) → Type 0) (names : List (List ℕ)) (e : ToolError) (place : ℕ) : Type 0 where
@@ -135,57 +144,39 @@ FilesFail gives names Fails e =
     (e ≡ tool.Memory) ⊎ ((place : ℕ) × IsUnreadAt gives names e place)
     ⊎ ((files : List (List ℕ)) × AreRead gives names files × Fails files e)
 
--- there is no memory for the saved file, it can't be read, or it or what follows is refused
-abbrev pub SavedFails : (List ℕ → Option (List ℕ) → Type 0) → List ℕ → (List ℕ → ToolError → Type 0) → ToolError → Type 0
-SavedFails gives name Fails e =
-    (e ≡ tool.Memory) ⊎ (gives name None × (e ≡ tool.FileFault 1)) ⊎ ((file : List ℕ) × gives name (Some file) × Fails file e)
-
--- a command is refused: by its options, by a file that can't be read, or as the library refuses what it is asked for
-abbrev pub CommandFails : (List ℕ → Option (List ℕ) → Type 0) → (Bool → List ℕ → Option (List ℕ) → Type 0)
-    → (List ℕ → ℕ → ToolError → Type 0) → Command → RecordWords → Bool → ToolError → Type 0
-CommandFails gives opens unopened (Top n rows workers memory) words refuses e =
-    TopFails opens unopened words n workers memory e
-CommandFails gives opens unopened (Summarise k method workers) words refuses e =
-    SummaryFails opens unopened words k method.items workers e
-CommandFails gives opens unopened (Table width depth seed workers) words refuses e =
-    ReadingFails opens unopened words 0 workers (RefusedAfter (bad_table_of_files depth width workers)) e
-CommandFails gives opens unopened (Merge first others) words refuses e =
-    FilesFail gives (first.items ∷ map (λ w. w.items) others.items) (λ files. Refuses (merged_files files)) e
-CommandFails gives opens unopened (Ask name keys decimals) words refuses e =
-    SavedFails gives name.items (λ file. Refuses (answers_in decimals file (map (λ w. w.items) keys.items))) e
-CommandFails gives opens unopened (ListKeys name decimals) words refuses e = SavedFails gives name.items SummaryRefused e
-CommandFails gives opens unopened (Describe name) words refuses e = SavedFails gives name.items (λ file. Refuses (description file)) e
-CommandFails gives opens unopened (Condense name workers) words refuses e =
-    SavedFails gives name.items
-    (λ file. ReadingFails opens unopened words 1 workers (CondenseFails refuses workers file)) e
-CommandFails gives opens unopened (Confirm name share rows workers) words refuses e =
-    SavedFails gives name.items
-    (λ file. ReadingFails opens unopened words 1 workers (ConfirmFails refuses share workers file)) e
+-- the first saved file can't be read, or is refused
+abbrev pub SavedFails : (List ℕ → Option (List ℕ) → Type 0) → Asked → (List ℕ → ToolError → Type 0) → ToolError → Type 0
+SavedFails gives asked Fails e =
+    IsUnread gives asked e ⊎ ((file : List ℕ) × gives (first_file asked) (Some file) × Fails file e)
 
 -- the report can't begin: the inputs can't be opened, an option is refused, or behind the options an input can't be kept
-abbrev pub BeginRefused : (List ℕ → ℕ → ToolError → Type 0) → ReportOptions → RecordWords → ToolError → Type 0
-BeginRefused unopened options words e =
-    OpenRefused unopened words 0 e ⊎ (bad_option options ≡ Some e) ⊎ ((bad_option options ≡ None) × IsUnkept e)
+abbrev pub BeginRefused : (List ℕ → ℕ → ToolError → Type 0) → Asked → ToolError → Type 0
+BeginRefused unopened asked e =
+    OpenRefused unopened asked e ⊎ (bad_option asked.options ≡ Some e) ⊎ ((bad_option asked.options ≡ None) × IsUnkept e)
 
 -- the report is refused: it can't begin, or the library refuses it
-abbrev pub ReportFails : (Bool → List ℕ → Option (List ℕ) → Type 0) → (List ℕ → ℕ → ToolError → Type 0) → ReportOptions
-    → RecordWords → ToolError → Type 0
-ReportFails opens unopened options words e =
-    BeginRefused unopened options words e ⊎ OfRecords opens words (λ _ known. StartRefused options known e)
+abbrev pub ReportFails : (Bool → List ℕ → Option (List ℕ) → Type 0) → (List ℕ → ℕ → ToolError → Type 0) → Asked → ToolError → Type 0
+ReportFails opens unopened asked e =
+    BeginRefused unopened asked e ⊎ OfRecords opens asked.records (λ _ known. StartRefused asked.options known e)
 
--- what was asked for is refused before anything is written
-abbrev pub RequestFails : (List ℕ → Option (List ℕ) → Type 0) → (Bool → List ℕ → Option (List ℕ) → Type 0)
-    → (List ℕ → ℕ → ToolError → Type 0) → Request → RecordWords → Bool → ToolError → Type 0
-RequestFails gives opens unopened (Report options rows by_plan) words refuses e = ReportFails opens unopened options words e
-RequestFails gives opens unopened (Answer command) words refuses e = CommandFails gives opens unopened command words refuses e
+-- a command that does this is refused: by its options, by a file that can't be read, or as the library refuses what is asked for
+abbrev pub Fails : (List ℕ → Option (List ℕ) → Type 0) → (Bool → List ℕ → Option (List ℕ) → Type 0)
+    → (List ℕ → ℕ → ToolError → Type 0) → Verb → Asked → Bool → ToolError → Type 0
+Fails gives opens unopened verb.Report asked refuses e = ReportFails opens unopened asked e
+Fails gives opens unopened verb.Top asked refuses e = TopFails opens unopened asked e
+Fails gives opens unopened (verb.Pass pass) asked refuses e = PassFails gives opens unopened pass asked refuses e
+Fails gives opens unopened verb.Merge asked refuses e =
+    FilesFail gives (map (λ w. w.items) asked.files.items) (λ files. Refuses (merged_files files)) e
+Fails gives opens unopened verb.Ask asked refuses e =
+    SavedFails gives asked (λ file. Refuses (answers_in asked.rows.decimals file (map (λ w. w.items) asked.keys.items))) e
+Fails gives opens unopened verb.List asked refuses e = SavedFails gives asked SummaryRefused e
+Fails gives opens unopened verb.Describe asked refuses e = SavedFails gives asked (λ file. Refuses (description file)) e
 
 -- what was asked for on the command line is refused. Nothing is written, but where the answer could not be: then a part of it.
 -- There may be no memory for the form that is asked for
 abbrev pub IsRefused : (List ℕ → Option (List ℕ) → Type 0) → (Bool → List ℕ → Option (List ℕ) → Type 0)
-    → (List ℕ → ℕ → ToolError → Type 0) → Invocation → Option Outside → Option (List ℕ) → Option (List ℕ) → ToolError → Type 0
+    → (List ℕ → ℕ → ToolError → Type 0) → Asked → Option Outside → Option (List ℕ) → Option (List ℕ) → ToolError → Type 0
 IsRefused gives opens unopened asked outside old new e =
-    ((RequestFails gives opens unopened asked.request asked.records (refuses_contradictions asked.records) e ⊎ (e ≡ tool.Memory))
-    × Keeps old new)
-    ⊎ ((bytes : List ℕ) × (n : ℕ)
-    × AnswersRequest gives opens asked.request asked.records (refuses_contradictions asked.records) outside bytes
-    × TakesFirst old new (bytes_in asked.output (columns_of asked.request) bytes) n × (e ≡ tool.WriteFault n))
+    ((Fails gives opens unopened asked.verb asked (refuses_contradictions asked.records) e ⊎ (e ≡ tool.Memory)) × Keeps old new)
+    ⊎ ((bytes : List ℕ) × (n : ℕ) × Answers gives opens asked.verb asked (refuses_contradictions asked.records) outside bytes
+    × TakesFirst old new (bytes_in asked.output (columns_of asked.verb asked.rows) bytes) n × (e ≡ tool.WriteFault n))

@@ -1,218 +1,143 @@
-//! The calls of the libraries that answer a request.
+//! The calls of the libraries that answer what is asked for.
 
-ghost use Rattle.std.specs.Prelude.{◌≡◌, ◌∷◌, map, option_map, None, Some, false, true, IfErr, IfOk, OnOk};
+ghost use Rattle.std.specs.Prelude.{◌≡◌, false, map, option_map, IfErr, IfOk, OnOk};
 ghost use Rattle.hh_commands.specs.Files.{Refuses};
 ghost use Rattle.hh_commands.specs.Merge.{merged_files};
-ghost use Rattle.heavy_answers.specs.Answers.{AnswersCommand, AnswersRequest, IsAnswered};
-ghost use Rattle.heavy_answers.specs.Answers.{MakesMerge, OfRecords, PrintsReport, columns_of};
-ghost use Rattle.heavy_answers.specs.Answers.{columns_of_command};
-ghost use Rattle.heavy_answers.specs.Refusals.{CommandFails, FilesFail, IsRefused, ReportFails};
-ghost use Rattle.heavy_answers.specs.Refusals.{RequestFails, TopFails};
+ghost use Rattle.heavy_answers.specs.Answers.{Answers, IsAnswered, MakesMerge, OfRecords};
+ghost use Rattle.heavy_answers.specs.Answers.{PrintsReport, columns_of};
+ghost use Rattle.heavy_answers.specs.Refusals.{Fails, FilesFail, IsRefused, ReportFails, TopFails};
 ghost use Rattle.hh_files.specs.TopFiles.{PrintsTop};
 
 use crate::columns::{BOUNDS, Names, VALUES, WEIGHTS, bytes_in, report_columns};
 use crate::host::Host;
-use crate::opening::{into_kept, open, open_records};
-use crate::single_pass::{SinglePass, in_one_pass};
-use heavy_host::{read_file, read_files};
-use heavy_requests::{Command, Invocation, MEGABYTE, RecordWords, Request};
-use hh_commands::{Comparison, Method, ask_rows, describe_file, list_rows, merge_bytes};
+use crate::opening::{into_kept, open, open_records, saved_file};
+use crate::single_pass::in_one_pass;
+use heavy_arguments::{Pass, Verb};
+use heavy_host::read_files;
+use heavy_requests::{Asked, MEGABYTE};
+use hh_commands::{Comparison, ask_rows, describe_file, list_rows, merge_bytes};
 use hh_faults::ToolError;
 use hh_files::{TopOptions, report_files, top_files};
 use hh_reports::{check_options, report_rows};
-use hh_rows::{ReportOptions, RowOptions, Sink, put};
+use hh_rows::{Sink, put};
 use hh_stream::in_range;
 use hh_workers::MAX_WORKERS;
 use std::sync::Wait;
 use std::thread::Threads;
 
-/// Reads the saved files `first` and `others`, merges them in this order and gives the bytes of the
-/// merged file. All files are read before any is tested, so a file that can't be read is refused
-/// before one whose bytes are wrong.
-fn merged<H: Host>(host: &H, first: &[u8], others: &[Vec<u8>]) -> Result<Vec<u8>, ToolError>
+/// Reads the saved files `names`, merges them in this order and gives the bytes of the merged file.
+/// All files are read before any is tested, so a file that can't be read is refused before one
+/// whose bytes are wrong. `clap` requires a name.
+fn merged<H: Host>(host: &H, names: &[Vec<u8>]) -> Result<Vec<u8>, ToolError>
     ensures made { IfOk result (λ bytes. MakesMerge (H.gives host.now)
-        (first.now ∷ map (λ w. w.items) others.now) bytes.items) }
+        (map (λ w. w.items) names.now) bytes.items) }
     ensures refused { IfErr result (FilesFail (H.gives host.now)
-        (first.now ∷ map (λ w. w.items) others.now) (λ files. Refuses (merged_files files))) }
+        (map (λ w. w.items) names.now) (λ files. Refuses (merged_files files))) }
 {
-    let files = read_files(host, first, others)?;
+    let files = read_files(host, names)?;
+    if files.is_empty() {
+        return Err(ToolError::Memory);
+    }
     merge_bytes(host.alloc(), &files)
 }
 
-/// Makes the rows of the `n` greatest keys of the records that `words` name, by counters that grow
-/// up to `memory` megabytes. All inputs are opened first, then `workers` is tested, and only then
-/// is anything read.
+/// Makes the rows of the greatest keys of the records that are `asked` for, by counters that grow
+/// up to as many megabytes. All inputs are opened first, then the number of workers is tested, and
+/// only then is anything read.
 fn top<T: Threads + Wait + Sync, H: Host>(
     threads: &T,
     host: &H,
-    n: u64,
-    rows: &RowOptions,
-    workers: u64,
-    memory: u64,
-    words: &RecordWords,
+    asked: &Asked,
 ) -> Result<Vec<u8>, ToolError>
-    ensures made { IfOk result (λ bytes. OfRecords (H.opens host.now) words.now
-        (λ _ known. PrintsTop rows.now n known bytes.items)) }
+    ensures made { IfOk result (λ bytes. OfRecords (H.opens host.now) asked.now.records
+        (λ _ known. PrintsTop asked.now.rows asked.now.greatest known bytes.items)) }
     ensures refused { IfErr result
-        (TopFails (H.opens host.now) (H.unopened host.now) words.now n workers memory) }
+        (TopFails (H.opens host.now) (H.unopened host.now) asked.now) }
 {
-    let opened = open(host, words, 0)?;
-    if !in_range(workers, MAX_WORKERS) {
+    let opened = open(host, asked)?;
+    if !in_range(asked.options.workers, MAX_WORKERS) {
         return Err(ToolError::BadWorkers);
     }
     let files = into_kept(host, opened)?;
     let options = TopOptions {
-        n,
-        workers,
-        memory: memory.saturating_mul(MEGABYTE),
+        n: asked.greatest,
+        workers: asked.options.workers,
+        memory: asked.memory.saturating_mul(MEGABYTE),
     };
-    let bytes = top_files(threads, host.alloc(), &options, rows, files.records())?;
+    let bytes = top_files(
+        threads,
+        host.alloc(),
+        &options,
+        &asked.rows,
+        files.records(),
+    )?;
     Ok(bytes)
 }
 
-/// Gives the names of the columns of the rows that `command` prints. A saved file has none.
-fn columns_of_command(command: &Command) -> Option<Names>
-    ensures { option_map (λ names. map (λ name. name.now) names.now) result
-        ≡ columns_of_command command.now }
-{
-    match command {
-        Command::Summarise { .. } | Command::Table { .. } | Command::Merge { .. } => None,
-        Command::Ask { .. } | Command::List { .. } => Some(BOUNDS),
-        Command::Describe { .. } => Some(VALUES),
-        Command::Condense { .. } => Some(WEIGHTS),
-        Command::Top { rows, .. } | Command::Confirm { rows, .. } => Some(report_columns(rows)),
-    }
-}
-
-/// Makes the whole output of `command`, over the records that `words` name if it reads any. It
-/// stores in `compared` where a saved summary and the records differ.
-fn bytes_of_command<T: Threads + Wait + Sync, H: Host>(
-    threads: &T,
-    host: &H,
-    command: &Command,
-    words: &RecordWords,
-    compared: &mut Comparison,
-) -> Result<Vec<u8>, ToolError>
-    ensures made { IfOk result (λ bytes. AnswersCommand (H.gives host.now) (H.opens host.now)
-        command.now words.now compared.old.refuses compared.new.outside bytes.items) }
-    ensures refused { IfErr result (CommandFails (H.gives host.now) (H.opens host.now)
-        (H.unopened host.now) command.now words.now compared.old.refuses) }
-{
-    let alloc = host.alloc();
-    match command {
-        Command::Top {
-            n,
-            rows,
-            workers,
-            memory,
-        } => top(threads, host, *n, rows, *workers, *memory, words),
-        Command::Summarise { k, method, workers } => {
-            let method = Method::of(method)?;
-            let command = SinglePass::Summarise { k: *k, method };
-            in_one_pass(threads, host, words, 0, *workers, &command, compared)
-        }
-        Command::Table {
-            width,
-            depth,
-            seed,
-            workers,
-        } => {
-            let (width, depth, seed) = (*width, *depth, *seed);
-            let command = SinglePass::Table { width, depth, seed };
-            in_one_pass(threads, host, words, 0, *workers, &command, compared)
-        }
-        Command::Merge { first, others } => merged(host, first, others),
-        Command::Ask {
-            file,
-            keys,
-            decimals,
-        } => ask_rows(alloc, &read_file(host, 1, file)?, keys, *decimals),
-        Command::List { file, decimals } => {
-            list_rows(alloc, &read_file(host, 1, file)?, *decimals)
-        }
-        Command::Describe { file } => describe_file(alloc, &read_file(host, 1, file)?),
-        Command::Condense { file, workers } => {
-            let file = read_file(host, 1, file)?;
-            let command = SinglePass::Condense { file: &file };
-            in_one_pass(threads, host, words, 1, *workers, &command, compared)
-        }
-        Command::Confirm {
-            file,
-            threshold: share,
-            rows,
-            workers,
-        } => {
-            let file = read_file(host, 1, file)?;
-            let command = SinglePass::Confirm {
-                file: &file,
-                share,
-                rows,
-            };
-            in_one_pass(threads, host, words, 1, *workers, &command, compared)
-        }
-    }
-}
-
-/// Makes the rows of the report of the records that `words` name. All inputs are opened first, then
-/// the options are tested, and only then is anything read: a pipe, which can be read only once, is
-/// untouched when an option is refused. With `by_plan`, one thread reads the inputs once.
+/// Makes the rows of the report of the records that are `asked` for. All inputs are opened first,
+/// then the options are tested, and only then is anything read: a pipe, which can be read only
+/// once, is untouched when an option is refused. By a plan, one thread reads the inputs once.
 fn report<T: Threads + Wait + Sync, H: Host>(
     threads: &T,
     host: &H,
-    options: &ReportOptions,
-    rows: &RowOptions,
-    words: &RecordWords,
-    by_plan: bool,
+    asked: &Asked,
 ) -> Result<Vec<u8>, ToolError>
-    ensures made { IfOk result (λ bytes. OfRecords (H.opens host.now) words.now (λ _ known.
-        PrintsReport options.now rows.now by_plan known bytes.items)) }
+    ensures made { IfOk result (λ bytes. OfRecords (H.opens host.now) asked.now.records
+        (λ _ known. PrintsReport asked.now known bytes.items)) }
     ensures refused { IfErr result
-        (ReportFails (H.opens host.now) (H.unopened host.now) options.now words.now) }
+        (ReportFails (H.opens host.now) (H.unopened host.now) asked.now) }
 {
     let alloc = host.alloc();
-    if by_plan {
-        let records = open_records(host, words, 0)?;
-        return report_rows(threads, alloc, options, rows, records);
+    if asked.by_plan {
+        let records = open_records(host, asked)?;
+        return report_rows(threads, alloc, &asked.options, &asked.rows, records);
     }
-    let opened = open(host, words, 0)?;
-    check_options(options)?;
+    let opened = open(host, asked)?;
+    check_options(&asked.options)?;
     let files = into_kept(host, opened)?;
-    let bytes = report_files(threads, alloc, options, rows, files.records())?;
+    let bytes = report_files(threads, alloc, &asked.options, &asked.rows, files.records())?;
     Ok(bytes)
 }
 
-/// Gives the names of the columns of the rows that `request` asks for. A saved file has none.
-fn columns_of(request: &Request) -> Option<Names>
-    ensures { option_map (λ names. map (λ name. name.now) names.now) result
-        ≡ columns_of request.now }
-{
-    match request {
-        Request::Report { rows, .. } => Some(report_columns(rows)),
-        Request::Answer(command) => columns_of_command(command),
-    }
-}
-
-/// Makes the whole output of `request`, as CSV where it is rows, over the records that `words` name
-/// if it reads any. It stores in `compared` where a saved summary and the records differ.
+/// Makes the whole output of what is `asked` for, as CSV where it is rows. It stores in `compared`
+/// where a saved summary and the records differ.
 fn bytes_of<T: Threads + Wait + Sync, H: Host>(
     threads: &T,
     host: &H,
-    request: &Request,
-    words: &RecordWords,
+    asked: &Asked,
     compared: &mut Comparison,
 ) -> Result<Vec<u8>, ToolError>
-    ensures made { IfOk result (λ bytes. AnswersRequest (H.gives host.now) (H.opens host.now)
-        request.now words.now compared.old.refuses compared.new.outside bytes.items) }
-    ensures refused { IfErr result (RequestFails (H.gives host.now) (H.opens host.now)
-        (H.unopened host.now) request.now words.now compared.old.refuses) }
+    ensures made { IfOk result (λ bytes. Answers (H.gives host.now) (H.opens host.now)
+        asked.now.verb asked.now compared.old.refuses compared.new.outside bytes.items) }
+    ensures refused { IfErr result (Fails (H.gives host.now) (H.opens host.now)
+        (H.unopened host.now) asked.now.verb asked.now compared.old.refuses) }
 {
-    match request {
-        Request::Report {
-            options,
-            rows,
-            by_plan,
-        } => report(threads, host, options, rows, words, *by_plan),
-        Request::Answer(command) => bytes_of_command(threads, host, command, words, compared),
+    let alloc = host.alloc();
+    match asked.verb {
+        Verb::Report => report(threads, host, asked),
+        Verb::Top => top(threads, host, asked),
+        Verb::Pass(pass) => in_one_pass(threads, host, asked, pass, compared),
+        Verb::Merge => merged(host, &asked.files),
+        Verb::Ask => {
+            let file = saved_file(host, asked)?;
+            ask_rows(alloc, &file, &asked.keys, asked.rows.decimals)
+        }
+        Verb::List => list_rows(alloc, &saved_file(host, asked)?, asked.rows.decimals),
+        Verb::Describe => describe_file(alloc, &saved_file(host, asked)?),
+    }
+}
+
+/// Gives the names of the columns of the rows that are `asked` for. A saved file has none.
+fn columns_of(asked: &Asked) -> Option<Names>
+    ensures { option_map (λ names. map (λ name. name.now) names.now) result
+        ≡ columns_of asked.now.verb asked.now.rows }
+{
+    match asked.verb {
+        Verb::Pass(Pass::Summarise | Pass::Table) | Verb::Merge => None,
+        Verb::Ask | Verb::List => Some(BOUNDS),
+        Verb::Describe => Some(VALUES),
+        Verb::Pass(Pass::Condense) => Some(WEIGHTS),
+        Verb::Report | Verb::Top | Verb::Pass(Pass::Confirm) => Some(report_columns(&asked.rows)),
     }
 }
 
@@ -224,7 +149,7 @@ fn bytes_of<T: Threads + Wait + Sync, H: Host>(
 pub fn answer<T: Threads + Wait + Sync, H: Host, S: Sink>(
     threads: &T,
     host: &H,
-    asked: &Invocation,
+    asked: &Asked,
     sink: &mut S,
     compared: &mut Comparison,
 ) -> Result<(), ToolError>
@@ -237,9 +162,8 @@ pub fn answer<T: Threads + Wait + Sync, H: Host, S: Sink>(
     ensures flushed { OnOk result (S.is_flushed sink.new ≡ true) }
 {
     compared.refuses = !asked.records.are_plain();
-    let request = &asked.request;
-    let bytes = bytes_of(threads, host, request, &asked.records, compared)?;
-    let bytes = bytes_in(host.alloc(), &asked.output, columns_of(request), bytes)?;
+    let bytes = bytes_of(threads, host, asked, compared)?;
+    let bytes = bytes_in(host.alloc(), &asked.output, columns_of(asked), bytes)?;
     put(sink, &bytes)?;
     Ok(())
 }

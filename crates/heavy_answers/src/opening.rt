@@ -1,6 +1,6 @@
 //! Opens the inputs of records that a request names.
 
-ghost use Rattle.std.specs.Prelude.{◌≡◌, ◌<◌, ◌∷◌, ◌++◌, ◌||◌, ◌⊎◌, ℕ, [], false, true, length, map, Err, IfErr, IfOk, IsErr, OnOk};
+ghost use Rattle.std.specs.Prelude.{◌≡◌, ◌<◌, ◌∷◌, ◌++◌, ◌||◌, ◌⊎◌, ℕ, [], false, true, length, map, Err, Some, IfErr, IfOk, IsErr, OnOk};
 ghost use Rattle.hh_records.specs.Layouts.{every};
 ghost use Rattle.hh_pieces.specs.Texts.{records_known};
 ghost use Rattle.hh_records.specs.LayoutWords.{LayoutRefused, SaysLayout};
@@ -9,12 +9,14 @@ ghost use Rattle.hh_workers.specs.Workers.{max_workers};
 ghost use Rattle.heavy_host.specs.Opening.{names_standard};
 ghost use Rattle.heavy_answers.specs.Inputs.{Agree, AreInputs, AreRecords, IsReadOnce};
 ghost use Rattle.heavy_answers.specs.Inputs.{input_names};
-ghost use Rattle.heavy_answers.specs.Refusals.{IsUnkept, IsUnopened, IsUnopenedAt, OpenRefused};
+ghost use Rattle.heavy_requests.specs.Request.{first_file};
+ghost use Rattle.heavy_answers.specs.Refusals.{IsUnkept, IsUnopened, IsUnopenedAt, IsUnread};
+ghost use Rattle.heavy_answers.specs.Refusals.{OpenRefused};
 ghost use Rattle.heavy_answers.specs.Refusals.{SourcesRefused};
 
 use crate::host::Host;
-use heavy_host::is_standard;
-use heavy_requests::RecordWords;
+use heavy_host::{is_standard, read_file};
+use heavy_requests::{Asked, RecordWords};
 use hh_faults::ToolError;
 use hh_pieces::{Records, SourceRecords};
 use hh_records::{Layout, layout_of};
@@ -30,6 +32,15 @@ fn push_to<T: Drop>(others: &mut Vec<T>, one: T) -> Result<(), ToolError>
         Ok(()) => Ok(()),
         Err(_) => Err(ToolError::Memory),
     }
+}
+
+/// Reads the first saved file that `asked` names.
+pub(crate) fn saved_file<H: Host>(host: &H, asked: &Asked) -> Result<Vec<u8>, ToolError>
+    ensures read { IfOk result (λ file.
+        H.gives host.now (first_file asked.now) (Some file.items)) }
+    ensures refused { IfErr result (IsUnread (H.gives host.now) asked.now) }
+{
+    read_file(host, 1, asked.first_file())
 }
 
 /// Whether standard input is taken once `name` is open: it `is_taken` before, or `name` is `-`.
@@ -58,19 +69,17 @@ fn open_named<H: Host>(host: &H, names: &[Vec<u8>], saved: u64) -> Result<Vec<H:
     Ok(inputs)
 }
 
-/// Opens the files of records that stand after `saved` saved files, or else standard input.
-fn open_inputs<H: Host>(
-    host: &H,
-    words: &RecordWords,
-    saved: u64,
-) -> Result<Vec<H::Input>, ToolError>
-    ensures opened { IfOk result (λ inputs.
-        AreInputs (H.opens host.now) false (input_names words.now) (map H.text inputs.items)) }
+/// Opens the files of records that `asked` names after its saved files, or else standard input.
+fn open_inputs<H: Host>(host: &H, asked: &Asked) -> Result<Vec<H::Input>, ToolError>
+    ensures opened { IfOk result (λ inputs. AreInputs (H.opens host.now) false
+        (input_names asked.now.records) (map H.text inputs.items)) }
     ensures refused { IfErr result (λ fault. (fault ≡ ToolError.Memory)
-        ⊎ IsUnopened (H.unopened host.now) (map (λ w. w.items) words.now.files.items) saved fault) }
+        ⊎ IsUnopened (H.unopened host.now) (map (λ w. w.items) asked.now.records.files.items)
+        (length asked.now.files.items) fault) }
 {
-    if !words.files.is_empty() {
-        return open_named(host, &words.files, saved);
+    let names = &asked.records.files;
+    if !names.is_empty() {
+        return open_named(host, names, asked.files.len() as u64);
     }
     let mut inputs = Vec::new(host.alloc());
     push_to(&mut inputs, host.open(b"-", 0, false)?)?;
@@ -136,21 +145,18 @@ pub(crate) struct Opened<I> {
     inputs: Vec<I>,
 }
 
-/// Reads the layout that `words` describe, and then opens the inputs of records that they name
-/// after `saved` saved files. If the layout is wrong, nothing is opened.
-pub(crate) fn open<H: Host>(
-    host: &H,
-    words: &RecordWords,
-    saved: u64,
-) -> Result<Opened<H::Input>, ToolError>
-    ensures layout { IfOk result (λ opened. SaysLayout words.now.layout opened.layout) }
+/// Reads the layout of the records that are `asked` for, and then opens their inputs. If the layout
+/// is wrong, nothing is opened.
+pub(crate) fn open<H: Host>(host: &H, asked: &Asked) -> Result<Opened<H::Input>, ToolError>
+    ensures layout { IfOk result (λ opened.
+        SaysLayout asked.now.records.layout opened.layout) }
     ensures some { IfOk result (λ opened. 0 < length opened.inputs.items) }
     ensures opened { IfOk result (λ opened. AreInputs (H.opens host.now) false
-        (input_names words.now) (map H.text opened.inputs.items)) }
-    ensures refused { IfErr result (OpenRefused (H.unopened host.now) words.now saved) }
+        (input_names asked.now.records) (map H.text opened.inputs.items)) }
+    ensures refused { IfErr result (OpenRefused (H.unopened host.now) asked.now) }
 {
-    let layout = layout_on(host, words)?;
-    let inputs = open_inputs(host, words, saved)?;
+    let layout = layout_on(host, &asked.records)?;
+    let inputs = open_inputs(host, asked)?;
     Ok(Opened { layout, inputs })
 }
 
@@ -178,17 +184,16 @@ fn into_records<H: Host>(
     })
 }
 
-/// The records of these inputs by one thread, which reads them once.
+/// The records that are `asked` for by one thread, which reads them once.
 pub(crate) fn open_records<H: Host>(
     host: &H,
-    words: &RecordWords,
-    saved: u64,
+    asked: &Asked,
 ) -> Result<Records<H::Reader>, ToolError>
-    ensures records { IfOk result (λ records. AreRecords (H.opens host.now) words.now
+    ensures records { IfOk result (λ records. AreRecords (H.opens host.now) asked.now.records
         records.layout (records_known H.Reader.remaining records)) }
-    ensures refused { IfErr result (OpenRefused (H.unopened host.now) words.now saved) }
+    ensures refused { IfErr result (OpenRefused (H.unopened host.now) asked.now) }
 {
-    let opened = open(host, words, saved)?;
+    let opened = open(host, asked)?;
     Ok(into_records(host, opened)?)
 }
 
@@ -216,27 +221,25 @@ pub(crate) enum OnePass<R, F> {
     Stream(Records<R>),
 }
 
-/// Opens the records that `words` name after `saved` saved files, to be read once. If all inputs
-/// are files of the disk that aren't empty, `workers` workers read them, unless this thread
-/// `is_alone`; else one thread reads all inputs. If that thread would read but `workers` is out of
-/// range, it gives no files at all: nothing is read, and the call that gets them refuses `workers`.
+/// Opens the records that are `asked` for, to be read once. If all inputs are files of the disk
+/// that aren't empty, workers read them, unless this thread `is_alone`; else one thread reads all
+/// inputs. If that thread would read but the number of workers is out of range, it gives no files
+/// at all: nothing is read, and the call that gets them refuses the number.
 pub(crate) fn open_once<H: Host>(
     host: &H,
-    words: &RecordWords,
-    saved: u64,
-    workers: u64,
+    asked: &Asked,
     is_alone: bool,
 ) -> Result<OnePass<H::Reader, H::File>, ToolError>
-    requires alone { is_alone ≡ true → in_range workers max_workers ≡ true }
+    requires alone { is_alone ≡ true → in_range asked.now.options.workers max_workers ≡ true }
     ensures records { IfOk result (IsReadOnce (H.opens host.now) H.Reader.remaining H.File.bytes
-        words.now workers) }
-    ensures refused { IfErr result (SourcesRefused (H.unopened host.now) words.now saved) }
+        asked.now) }
+    ensures refused { IfErr result (SourcesRefused (H.unopened host.now) asked.now) }
 {
-    let opened = open(host, words, saved)?;
+    let opened = open(host, asked)?;
     if !is_alone && opened.inputs.iter().all(|input| host.is_disk_file(input)) {
         return Ok(OnePass::Files(into_kept(host, opened)?));
     }
-    if in_range(workers, MAX_WORKERS) {
+    if in_range(asked.options.workers, MAX_WORKERS) {
         return Ok(OnePass::Stream(into_records(host, opened)?));
     }
     Ok(OnePass::Files(KeptRecords {

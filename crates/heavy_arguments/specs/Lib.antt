@@ -1,3 +1,3 @@
 pub mod CommandLine
 pub mod Commands
-pub mod Numbers
+pub mod Found

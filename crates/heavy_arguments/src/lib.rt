@@ -2,12 +2,11 @@
 //! help says of them.
 #![tactic(auto)]
 
-mod arguments;
+pub mod arguments;
 mod help;
 mod options;
+mod verbs;
 
-pub use arguments::{
-    ALLOW_ZERO, BAD_AS, DECIMALS, DELIMITER, DEPTH, EXPLAIN, GREATEST, HEADER, JSON, K, KEY, LINES,
-    MEMORY, NAMES, NO_QUOTES, Number, OUTPUT, PIECES, PREFIX, PROGRESS, RECORDS, SEED, SHARE,
-    SQUEEZE, SUMMARY_WORKERS, TOP, TOP_MEMORY, UNTIL, WEIGHT, WIDTH, WORKERS, command_line,
-};
+pub use arguments::command_line;
+pub use options::Named;
+pub use verbs::{Pass, Verb};

@@ -1,15 +1,17 @@
 //! What a command takes: options, and words that stand by themselves.
 
-ghost use Rattle.std.specs.Prelude.{◌≡◌, Some, false};
+ghost use Rattle.std.specs.Prelude.{◌≡◌, ◌^◌, Some, false};
 ghost use Rattle.clap.specs.Lexer.{usize_max};
 ghost use Rattle.clap.specs.Simple.{new_rule};
 ghost use Rattle.clap.specs.Walk.{rule_of};
+ghost use Rattle.clap.specs.Words.{found_of};
 ghost use Rattle.clap.specs.declared.builder.action.ArgAction.TheVariants.{Append};
 ghost use Rattle.heavy_arguments.specs.CommandLine.{flag, option, rule_of_argument, rule_of_kind};
+ghost use Rattle.heavy_arguments.specs.Found.{IsFlag, IsNumber, IsNumberGiven, number_of_kind};
+ghost use Rattle.heavy_arguments.specs.Found.{text_found, text_of_kind};
 
-use crate::arguments::Number;
 use clap::builder::ValueParser;
-use clap::{Arg, ArgAction, value_parser};
+use clap::{Arg, ArgAction, ArgMatches, value_parser};
 use std::alloc::Global;
 
 /// The place in help of an option that stands below those of the command's own.
@@ -25,17 +27,19 @@ pub(crate) struct Forms<'a> {
     pub(crate) names: &'a [&'a str],
 }
 
-/// How an argument is given.
+/// How an argument is given. Its texts are `T`: definitions cite constants of structs that have
+/// references by type parameters alone.
 #[derive(Clone, Copy)]
-pub(crate) enum Kind {
-    /// An option with a number.
-    Number,
+pub enum Kind<T> {
+    /// An option with a number, and what it is where it isn't given.
+    Number(Option<u64>),
     /// An option with a number from 0 to 9.
     Digit,
-    /// An option with a text, by the name that help has for it.
-    Text(&'static str),
+    /// An option with a text, by the name that help has for it, and what it is where it isn't
+    /// given.
+    Text(T, T),
     /// An option with a text that isn't empty, by the name that help has for it.
-    Filled(&'static str),
+    Filled(T),
     /// An option with a byte.
     Byte,
     /// An option with columns.
@@ -58,17 +62,18 @@ pub(crate) enum Kind {
     Files,
 }
 
-/// What a command takes.
+/// What a command takes: an option, or words that stand by themselves.
 #[derive(Clone, Copy)]
-pub(crate) enum Argument {
-    /// An option with a number that has a default.
-    Number(Number),
-    /// Another, by how it is given, its name and its help.
-    Given(Kind, &'static str, &'static str),
-    /// An option that a letter after one hyphen gives too: the letter, how it is given, its name
-    /// and its help.
-    Short(char, Kind, &'static str, &'static str),
+pub struct Argument<T> {
+    pub name: T,
+    /// The letter that gives it too, after one hyphen.
+    pub letter: Option<char>,
+    pub kind: Kind<T>,
+    pub help: T,
 }
+
+/// An argument of a constant.
+pub type Named = Argument<&'static str>;
 
 /// The word with this name, that of its value, and its help.
 fn word<'a>(alloc: Global, name: &'a str, value: &'a str, help: &'a str) -> Arg<'a>
@@ -108,18 +113,39 @@ fn flag<'a>(alloc: Global, name: &'a str, help: &'a str) -> Arg<'a>
         .action(ArgAction::SetTrue)
 }
 
-impl Kind {
+impl Kind<&'static str> {
+    /// Gives the number that stands where none is given: 0 where the kind has no other.
+    fn number(self) -> u64
+        ensures { result ≡ number_of_kind self.entry }
+    {
+        match self {
+            Kind::Number(Some(number)) => number,
+            Kind::Count => 1,
+            _ => 0,
+        }
+    }
+
+    /// Gives the text that stands where none is given: none where the kind has no other.
+    fn text(self) -> &'static str
+        ensures { result.now ≡ text_of_kind (λ t. t.now) self.entry }
+    {
+        match self {
+            Kind::Text(_, text) => text,
+            _ => "",
+        }
+    }
+
     /// Makes the argument with this name and help for `clap`. Rows are printed in the `forms`.
     fn to_arg<'a>(self, alloc: Global, forms: Forms<'a>, name: &'a str, help: &'a str) -> Arg<'a>
-        ensures rule { rule_of result ≡ rule_of_kind forms.entry.names self name.now }
+        ensures rule { rule_of result ≡ rule_of_kind forms.entry.names self.entry name.now }
         ensures local { result.global ≡ false }
     {
         match self {
-            Kind::Number => option(alloc, name, "N", help).value_parser(value_parser!(u64)),
+            Kind::Number(_) => option(alloc, name, "N", help).value_parser(value_parser!(u64)),
             Kind::Digit => {
                 option(alloc, name, "D", help).value_parser(value_parser!(u8).range(0..=9))
             }
-            Kind::Text(value) => option(alloc, name, value, help),
+            Kind::Text(value, _) => option(alloc, name, value, help),
             Kind::Filled(value) => {
                 option(alloc, name, value, help).value_parser(ValueParser::NonEmptyString)
             }
@@ -141,18 +167,53 @@ impl Kind {
     }
 }
 
-impl Argument {
+impl Argument<&'static str> {
     /// Makes the argument for `clap`. Rows are printed in the `forms`.
     pub(crate) fn to_arg<'a>(self, alloc: Global, forms: Forms<'a>) -> Arg<'a>
-        ensures rule { rule_of result ≡ rule_of_argument forms.entry.names self }
+        ensures rule { rule_of result
+            ≡ rule_of_argument (λ t. t.now) forms.entry.names self.entry }
         ensures local { result.global ≡ false }
     {
-        match self {
-            Argument::Number(it) => Kind::Number.to_arg(alloc, forms, it.name, it.help),
-            Argument::Given(kind, name, help) => kind.to_arg(alloc, forms, name, help),
-            Argument::Short(letter, kind, name, help) => {
-                kind.to_arg(alloc, forms, name, help).short(letter)
-            }
+        let argument = self.kind.to_arg(alloc, forms, self.name, self.help);
+        match self.letter {
+            Some(letter) => argument.short(letter),
+            None => argument,
         }
+    }
+
+    /// Gives the number that was given, if one was.
+    pub fn number_given(self, found: &ArgMatches) -> Option<u64>
+        ensures { IsNumberGiven (found_of found.now) self.entry.name.now result }
+    {
+        found.get_one(self.name)
+    }
+
+    /// Gives the number that was given, or else the default.
+    pub fn number(self, found: &ArgMatches) -> u64
+        ensures { IsNumber (found_of found.now) self.entry.name.now (2 ^ 64)
+            (number_of_kind self.entry.kind) result }
+    {
+        found.get_one(self.name).unwrap_or(self.kind.number())
+    }
+
+    /// Gives the digit that was given, or else 0.
+    pub fn digit(self, found: &ArgMatches) -> u8
+        ensures { IsNumber (found_of found.now) self.entry.name.now (2 ^ 8) 0 result }
+    {
+        found.get_one(self.name).unwrap_or(0)
+    }
+
+    /// Gives the text that was given, or else the default.
+    pub fn text<'a>(self, found: &ArgMatches<'a>) -> &'a str
+        ensures { result.now ≡ text_found (λ t. t.now) (found_of found.now) self.entry }
+    {
+        found.get_str(self.name).unwrap_or(self.kind.text())
+    }
+
+    /// Whether the flag is given.
+    pub fn is_given(self, found: &ArgMatches) -> bool
+        ensures { IsFlag (found_of found.now) self.entry.name.now result }
+    {
+        found.get_flag(self.name)
     }
 }

@@ -11,29 +11,18 @@ use crate::reasons::{tell_standard, tell_unkept, tell_unread};
 use crate::record_place::Texts;
 use crate::saved_kinds::{tell_kinds, tell_unmerged};
 use heavy_host::{Unread, is_standard};
-use heavy_requests::{Command, Invocation, Request};
+use heavy_requests::Asked;
 use hh_commands::Comparison;
 use hh_faults::ToolError;
 
-/// Whether a command reads records.
-fn reads_records(request: &Request) -> bool {
-    match request {
-        Request::Report { .. } => true,
-        Request::Answer(Command::Summarise { .. } | Command::Table { .. }) => true,
-        Request::Answer(Command::Top { .. }) => true,
-        Request::Answer(Command::Condense { .. } | Command::Confirm { .. }) => true,
-        Request::Answer(_) => false,
-    }
-}
-
 /// Whether a fault is one of records that files or options of records name. Of plain records on
 /// standard input a fault is one line.
-pub(crate) fn names_records(fault: &ToolError, asked: &Invocation) -> bool {
-    if !reads_records(&asked.request) || asked.records.are_plain() {
+pub(crate) fn names_records(fault: &ToolError, asked: &Asked) -> bool {
+    if !asked.verb.reads_records() || asked.records.are_plain() {
         return false;
     }
     match fault {
-        ToolError::FileFault { number } => *number > asked.request.saved_before_records(),
+        ToolError::FileFault { number } => *number > asked.saved_before_records(),
         ToolError::BadRecord { .. } | ToolError::NoColumn => true,
         _ => false,
     }
@@ -102,7 +91,7 @@ pub(crate) fn explain_comparison(
 
 /// Prints more about the `fault` of the greatest keys that were `asked` for, where counters leave
 /// them open.
-pub(crate) fn explain_top(rt: &HostRuntime, fault: &ToolError, asked: &Invocation) {
+pub(crate) fn explain_top(rt: &HostRuntime, fault: &ToolError, asked: &Asked) {
     if let ToolError::TopUncertain { most, .. } = fault {
         tell_next(rt, *most, asked.records.layout.decimals, asked.memory);
     }

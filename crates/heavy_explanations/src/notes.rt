@@ -3,8 +3,9 @@
 use crate::escaped::Name;
 use crate::file_names::FileNames;
 use crate::thresholds::{MOST_COUNTERS, is_least};
+use heavy_arguments::Verb;
 use heavy_progress::{FormatHints, LongRecord};
-use heavy_requests::{Invocation, Request};
+use heavy_requests::Asked;
 use hh_records::{Format, LayoutWords};
 use hh_rows::{Form, Share};
 use std::fmt::{self, Display};
@@ -140,21 +141,22 @@ fn print_above(rt: &HostRuntime, keys: KeysAbove, share: &Share, k: u64, top: u6
 
 /// Prints how many keys a report has, of which `rows` were written, where it has fewer than were
 /// asked for or none, and what shows more; and where it has none, whether it `has_records`.
-pub(crate) fn print_few_keys(rt: &HostRuntime, asked: &Invocation, rows: u64, has_records: bool) {
-    let Request::Report {
-        options,
-        rows: wanted,
-        ..
-    } = &asked.request
-    else {
+pub(crate) fn print_few_keys(rt: &HostRuntime, asked: &Asked, rows: u64, has_records: bool) {
+    if asked.verb != Verb::Report {
         return;
-    };
+    }
     let has_header = asked.output.has_names && asked.output.form != Form::Json;
     let keys = rows.saturating_sub(u64::from(has_header));
-    let top = wanted.top.unwrap_or(1);
+    let top = asked.rows.top.unwrap_or(1);
     if keys < top && !has_records {
         let _ = rt.eprintln("heavy: note: there are no records");
     } else if keys < top {
-        print_above(rt, KeysAbove(keys), &options.threshold, options.k, top);
+        print_above(
+            rt,
+            KeysAbove(keys),
+            &asked.options.threshold,
+            asked.options.k,
+            top,
+        );
     }
 }

@@ -20,7 +20,7 @@ use crate::samples::{format_hints, with_files};
 use crate::thresholds::tell_threshold;
 use heavy_host::{numbered, print_fault, status_after};
 use heavy_inputs::Inputs;
-use heavy_requests::{Invocation, UsageReport};
+use heavy_requests::{Asked, UsageReport};
 use hh_commands::Comparison;
 use hh_faults::ToolError;
 use std::io::IsTerminal;
@@ -30,22 +30,22 @@ use std::process::ExitCode;
 const USAGE: u8 = 2;
 
 /// Gathers what can be looked at again of the records that `asked` names.
-fn texts_of<'a>(inputs: Inputs<'a>, asked: &'a Invocation) -> Texts<'a> {
+fn texts_of<'a>(inputs: Inputs<'a>, asked: &'a Asked) -> Texts<'a> {
     Texts {
         rt: inputs.rt,
         records: &asked.records,
-        saved: asked.request.saved_before_records(),
+        saved: asked.saved_before_records(),
         begin: &inputs.notes.begin,
     }
 }
 
 /// Prints more about the `fault` of what was `asked` for, by what was noted of the inputs and
 /// `compared`.
-fn explain(inputs: Inputs<'_>, fault: &ToolError, asked: &Invocation, compared: &Comparison) {
+fn explain(inputs: Inputs<'_>, fault: &ToolError, asked: &Asked, compared: &Comparison) {
     let (rt, notes, records) = (inputs.rt, inputs.notes, &asked.records);
     let names = FileNames::of(asked);
     if let ToolError::BadThreshold = fault {
-        tell_threshold(rt, &asked.request);
+        tell_threshold(rt, asked);
     }
     explain_file(rt, names, fault, &notes.unread);
     explain_comparison(rt, names.name(1), fault, compared, records.layout.decimals);
@@ -55,12 +55,7 @@ fn explain(inputs: Inputs<'_>, fault: &ToolError, asked: &Invocation, compared: 
 
 /// Prints a fault of what was asked for. More about it comes where that is asked for, standard
 /// error is a terminal, the fault is one of records that are named, or a pipe could not be kept.
-fn print_explained(
-    inputs: Inputs<'_>,
-    fault: &ToolError,
-    asked: &Invocation,
-    compared: &Comparison,
-) {
+fn print_explained(inputs: Inputs<'_>, fault: &ToolError, asked: &Asked, compared: &Comparison) {
     print_fault(inputs.rt, fault);
     let is_unkept = inputs.notes.unread.is_unkept();
     if is_unkept || asked.explains_faults(inputs.rt) || names_records(fault, asked) {
@@ -99,7 +94,7 @@ pub fn status_of_usage(rt: &HostRuntime, report: &UsageReport) -> ExitCode
 }
 
 /// Prints notes on what was read and on what was `compared`, and on the `rows` that were written.
-fn print_notes(inputs: Inputs<'_>, asked: &Invocation, compared: &Comparison, rows: u64) {
+fn print_notes(inputs: Inputs<'_>, asked: &Asked, compared: &Comparison, rows: u64) {
     let (rt, layout) = (inputs.rt, &asked.records.layout);
     let (texts, names) = (texts_of(inputs, asked), FileNames::of(asked));
     let endings = with_files(inputs.notes.endings.get(), texts, inputs.form.delimiter);
@@ -120,11 +115,11 @@ fn print_notes(inputs: Inputs<'_>, asked: &Invocation, compared: &Comparison, ro
 }
 
 /// Gives the number of the first file of records that `asked` names, and 0 where it names none.
-fn first_number(asked: &Invocation) -> u64 {
+fn first_number(asked: &Asked) -> u64 {
     if asked.records.files.is_empty() {
         0
     } else {
-        asked.request.saved_before_records().saturating_add(1)
+        asked.saved_before_records().saturating_add(1)
     }
 }
 
@@ -132,7 +127,7 @@ fn first_number(asked: &Invocation) -> u64 {
 /// Where files of records are not what they were before, the first one has the fault.
 pub fn status_of(
     inputs: Inputs<'_>,
-    asked: &Invocation,
+    asked: &Asked,
     outcome: Result<(), ToolError>,
     compared: &Comparison,
     rows: u64,

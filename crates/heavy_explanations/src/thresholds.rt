@@ -1,7 +1,8 @@
 //! Which k a threshold needs, and how one is written.
 
 use crate::escaped::Name;
-use heavy_requests::{Command, Request};
+use heavy_arguments::Verb;
+use heavy_requests::Asked;
 use hh_rows::{Share, threshold_of};
 
 /// The most counters of a summary.
@@ -98,13 +99,11 @@ fn tell_share(rt: &HostRuntime, share: &Share, owner: &str) {
     }
 }
 
-/// Prints which k the share of `request` needs.
-pub(crate) fn tell_threshold(rt: &HostRuntime, request: &Request) {
-    match request {
-        Request::Report { options, .. } => tell_share(rt, &options.threshold, ""),
-        Request::Answer(Command::Confirm { threshold, .. }) => {
-            tell_share(rt, threshold, ", and the summary has a k of its own");
-        }
-        Request::Answer(_) => {}
-    }
+/// Prints which k the share that is `asked` for needs.
+pub(crate) fn tell_threshold(rt: &HostRuntime, asked: &Asked) {
+    let owner = match asked.verb {
+        Verb::Report => "",
+        _ => ", and the summary has a k of its own",
+    };
+    tell_share(rt, &asked.options.threshold, owner);
 }

@@ -46,22 +46,17 @@ fn push_file(files: &mut Vec<Vec<u8>>, file: Result<Vec<u8>, ToolError>) -> Resu
     }
 }
 
-/// The bytes of a first file and of others, in order. Where one can't be read, the error is
-/// [`ToolError::FileFault`] with its number, from 1 on.
-pub fn read_files<F: FileSource>(
-    source: &F,
-    first: &[u8],
-    others: &[Vec<u8>],
-) -> Result<Vec<Vec<u8>>, ToolError>
+/// The bytes of files, in order. Where one can't be read, the error is [`ToolError::FileFault`] with
+/// its number, from 1 on.
+pub fn read_files<F: FileSource>(source: &F, names: &[Vec<u8>]) -> Result<Vec<Vec<u8>>, ToolError>
     ensures read { IfOk result (λ files. AreRead (F.gives source.now)
-        (first.now ∷ map (λ w. w.items) others.now) (map (λ f. f.items) files.items)) }
+        (map (λ w. w.items) names.now) (map (λ f. f.items) files.items)) }
     ensures fault { IfErr result
-        (TellsFile (F.gives source.now) (first.now ∷ map (λ w. w.items) others.now)) }
+        (TellsFile (F.gives source.now) (map (λ w. w.items) names.now)) }
 {
     let mut files = Vec::new(source.alloc());
-    push_file(&mut files, read_file(source, 1, first))?;
-    for (i, name) in others.iter().enumerate() {
-        push_file(&mut files, read_file(source, i as u64 + 2, name))?;
+    for (i, name) in names.iter().enumerate() {
+        push_file(&mut files, read_file(source, i as u64 + 1, name))?;
     }
     Ok(files)
 }

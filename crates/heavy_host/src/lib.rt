@@ -14,4 +14,4 @@ pub use opening::{Named, is_standard, open_file, open_input};
 pub use standard::{HeldNumbers, hold_closed};
 pub use status::{numbered, print_fault, status_after, status_of};
 pub use unread::Unread;
-pub use words::{WordSource, after_first, bytes_of, read_words, texts_of};
+pub use words::{WordSource, bytes_of, read_words, texts_of};

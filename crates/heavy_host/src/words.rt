@@ -5,7 +5,7 @@
 //! own.
 
 ghost use Rattle.std.specs.Prelude.{◌≡◌, [], ◌∷◌, ◌++◌, ℕ, Option, List, ⊤, IfOk, OnOk, is_none};
-ghost use Rattle.std.specs.Prelude.{drop, map, option_map};
+ghost use Rattle.std.specs.Prelude.{map, option_map};
 ghost use Rattle.std.specs.Char.{IsScalar};
 ghost use Rattle.std.specs.List.{list_all};
 ghost use Rattle.std.specs.Str.{chars};
@@ -99,16 +99,6 @@ pub fn bytes_of(alloc: Global, text: &str) -> Result<Vec<u8>, AllocError>
         push_bytes(&mut bytes, character)?;
     }
     Ok(bytes)
-}
-
-/// The words after the first one.
-pub fn after_first(mut words: Vec<Vec<u8>>) -> Vec<Vec<u8>>
-    ensures { map (λ w. w.items) result.items ≡ drop 1 (map (λ w. w.items) words.items) }
-{
-    if !words.is_empty() {
-        words.remove(0);
-    }
-    words
 }
 
 /// Where words come from, each by its number.

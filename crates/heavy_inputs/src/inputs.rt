@@ -10,7 +10,7 @@ use crate::notes::InputNotes;
 use crate::open_file::OpenFile;
 use heavy_host::{Named, open_input};
 use heavy_progress::{Form, ProgressReader, SharedProgress, Tail};
-use heavy_requests::{Invocation, MEGABYTE};
+use heavy_requests::{Asked, MEGABYTE};
 use hh_faults::ToolError;
 use std::fs;
 
@@ -51,7 +51,7 @@ impl<'a> Inputs<'a> {
     /// a time.
     pub fn new(
         rt: &'a HostRuntime,
-        asked: &Invocation,
+        asked: &Asked,
         notes: &'a InputNotes,
         progress: Option<&'a SharedProgress<'a>>,
     ) -> Inputs<'a> {
@@ -143,9 +143,9 @@ impl<'a> Inputs<'a> {
 }
 
 /// Starts the progress of workers over the files of records, where `asked` wants it reported.
-pub fn shared_progress<'a>(rt: &'a HostRuntime, asked: &Invocation) -> Option<SharedProgress<'a>> {
+pub fn shared_progress<'a>(rt: &'a HostRuntime, asked: &Asked) -> Option<SharedProgress<'a>> {
     if !asked.tells_progress {
         return None;
     }
-    SharedProgress::start(rt, &asked.records.files, asked.request.passes()).ok()
+    SharedProgress::start(rt, &asked.records.files, asked.passes()).ok()
 }

@@ -6,5 +6,5 @@ mod request;
 mod usage_report;
 
 pub use fields::split_fields;
-pub use request::{Command, Invocation, MEGABYTE, RecordWords, Request, UsageError, read_request};
+pub use request::{Asked, MEGABYTE, RecordWords, UsageError, read_request};
 pub use usage_report::UsageReport;

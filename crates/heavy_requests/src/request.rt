@@ -1,24 +1,26 @@
 //! What a command line asks for.
 
-ghost use Rattle.std.specs.Prelude.{◌≡◌, ◌++◌, [], IfErr, IfOk, OnOk, codes, map, option_map};
-ghost use Rattle.clap.specs.Words.{Text, first_value, found_of};
+ghost use Rattle.std.specs.Prelude.{◌≡◌, ◌++◌, [], IfErr, IfOk, OnOk, map, option_map};
+ghost use Rattle.clap.specs.Words.{first_value, found_of};
+ghost use Rattle.heavy_arguments.specs.Found.{text_found};
 ghost use Rattle.heavy_host.specs.Words.{word_of};
-ghost use Rattle.heavy_requests.specs.Request.{AreDecimals, AreOptions, AreRecordWords};
-ghost use Rattle.heavy_requests.specs.Request.{AreRowOptions, AsksFor, GivesShare, IsAskedBy, IsFormat, IsOutput};
-ghost use Rattle.heavy_requests.specs.Request.{IsAskedFrom, IsMemoryOf, IsReportName, NamesForm};
-ghost use Rattle.heavy_requests.specs.Request.{MayRefuse, MayRefuseFrom, NamesTree, all_columns};
-ghost use Rattle.heavy_requests.specs.Request.{all_words, are_plain, asks_plan, between_commas, columns_in};
-ghost use Rattle.heavy_requests.specs.Request.{first_word};
+ghost use Rattle.heavy_requests.specs.Request.{AreOptions, AreRecordWords, AreRowOptions};
+ghost use Rattle.heavy_requests.specs.Request.{AsksFor, GivesShare, IsAskedBy, IsAskedFrom};
+ghost use Rattle.heavy_requests.specs.Request.{IsFormat, IsOutput, MayRefuse, MayRefuseFrom};
+ghost use Rattle.heavy_requests.specs.Request.{NamesTree, all_columns, all_words, are_plain};
+ghost use Rattle.heavy_requests.specs.Request.{asks_plan, between_commas, columns_in, first_file};
+ghost use Rattle.heavy_requests.specs.Request.{word_given};
 
 use crate::fields::split_fields;
 use crate::usage_report::{UsageReport, usage_report_of};
 use clap::ArgMatches;
-use heavy_arguments::{
-    ALLOW_ZERO, BAD_AS, DECIMALS, DELIMITER, DEPTH, EXPLAIN, GREATEST, HEADER, JSON, K, KEY, LINES,
-    MEMORY, NAMES, NO_QUOTES, OUTPUT, PIECES, PREFIX, PROGRESS, RECORDS, SEED, SHARE, SQUEEZE,
-    SUMMARY_WORKERS, TOP, TOP_MEMORY, UNTIL, WEIGHT, WIDTH, WORKERS, command_line,
+use heavy_arguments::arguments::{
+    ALLOW_ZERO, BAD_AS, DECIMALS, DELIMITER, DEPTH, EXPLAIN, GREATEST, HEADER, JSON, K, KEY, KEYS,
+    LINES, METHOD, NAMES, NO_QUOTES, OUTPUT, PIECES, PLAN, PREFIX, PROGRESS, RECORDS, SAVED_FILES,
+    SEED, SHARE, SQUEEZE, THRESHOLD, TOP, TREE, UNTIL, WEIGHT, WIDTH,
 };
-use heavy_host::{WordSource, after_first, bytes_of, read_words, texts_of};
+use heavy_arguments::{Named, Pass, Verb, command_line};
+use heavy_host::{WordSource, bytes_of, read_words, texts_of};
 use hh_records::{Format, LayoutWords, delimiter_of};
 use hh_rows::{Form, Output, ReportOptions, RowOptions, Share, Tree};
 use std::alloc::{AllocError, Global};
@@ -27,26 +29,75 @@ use std::io::IsTerminal;
 /// How many bytes a megabyte has.
 pub const MEGABYTE: u64 = 1_000_000;
 
-/// What a command line asks for, and how.
+/// What a command line asks for. Of an option that the command doesn't have it says what it says
+/// where the option isn't given.
 #[derive(Drop)]
-pub struct Invocation {
-    pub request: Request,
+pub struct Asked {
+    pub verb: Verb,
+    /// What a report is of, and how it is made.
+    pub options: ReportOptions,
+    /// Whether an option of the plan is given.
+    pub by_plan: bool,
+    /// How a summary is made.
+    pub method: Vec<u8>,
+    /// How many of the greatest keys are printed.
+    pub greatest: u64,
+    /// The most megabytes of a pipe that are kept in memory, where it is read twice, and of
+    /// counters that grow. A pipe that gives more is kept in a temporary file.
+    pub memory: u64,
+    /// Which rows are printed.
+    pub rows: RowOptions,
+    /// How they are printed.
+    pub output: Output,
+    /// The names of saved files.
+    pub files: Vec<Vec<u8>>,
+    /// The keys that a saved file is asked for. Words are kept as bytes, which need not be UTF-8.
+    pub keys: Vec<Vec<u8>>,
     pub records: RecordWords,
     /// Whether the progress of reading is reported.
     pub tells_progress: bool,
     /// Whether an error message gets a second line, which explains it.
     pub explains: bool,
-    /// How rows are printed, where the command prints any.
-    pub output: Output,
-    /// The most megabytes of a pipe that are kept in memory, where it is read twice. One that gives
-    /// more is kept in a temporary file.
-    pub memory: u64,
 }
 
-impl Invocation {
+impl Asked {
     /// Whether a fault has a second line: where that is asked for, or standard error is a terminal.
     pub fn explains_faults(&self, rt: &HostRuntime) -> bool {
         self.explains || rt.stderr().is_terminal()
+    }
+
+    /// Gives the name of the first saved file, which `clap` requires where a command has one. Where
+    /// there is none the name is empty, so that it can't be read.
+    pub fn first_file(&self) -> &[u8]
+        ensures { result.now ≡ first_file self.now }
+    {
+        match self.files.first() {
+            Some(file) => file.as_slice(),
+            None => b"",
+        }
+    }
+
+    /// Gives how many saved files the command line names before its files of records. It is 0 for
+    /// a command that reads no records, however many saved files it names.
+    pub fn saved_before_records(&self) -> u64 {
+        if self.verb.reads_records() {
+            self.files.len() as u64
+        } else {
+            0
+        }
+    }
+
+    /// Gives the passes in which workers read the files of records, by the command line alone: 0 if
+    /// they read none. A report needs two, or one if its keys are few, and so do the greatest keys.
+    /// Where their counters grow they need a third, which is not counted.
+    pub fn passes(&self) -> u64 {
+        match self.verb {
+            Verb::Report if self.by_plan => 0,
+            Verb::Report | Verb::Top => 2,
+            Verb::Pass(Pass::Summarise) => u64::from(self.options.workers != 1),
+            Verb::Pass(_) => 1,
+            Verb::Merge | Verb::Ask | Verb::List | Verb::Describe => 0,
+        }
     }
 }
 
@@ -90,103 +141,6 @@ impl RecordWords {
     }
 }
 
-/// What a command line asks for.
-#[derive(Drop)]
-pub enum Request {
-    /// The report of records, written as it is made.
-    Report {
-        options: ReportOptions,
-        rows: RowOptions,
-        /// Whether an option of the plan is given.
-        by_plan: bool,
-    },
-    /// Bytes that are made whole, and then written.
-    Answer(Command),
-}
-
-impl Request {
-    /// Gives how many saved files the command line names before its files of records. It is 0 for
-    /// a command that reads no records, however many saved files it names.
-    pub fn saved_before_records(&self) -> u64 {
-        match self {
-            Request::Answer(Command::Condense { .. } | Command::Confirm { .. }) => 1,
-            _ => 0,
-        }
-    }
-
-    /// Gives the passes in which workers read the files of records, by the command line alone: 0 if
-    /// they read none. A report needs two, or one if its keys are few, and so do the greatest keys.
-    /// Where their counters grow they need a third, which is not counted.
-    pub fn passes(&self) -> u64 {
-        match self {
-            Request::Report { by_plan: true, .. } => 0,
-            Request::Report { .. } | Request::Answer(Command::Top { .. }) => 2,
-            Request::Answer(Command::Summarise { workers, .. }) => u64::from(*workers != 1),
-            Request::Answer(Command::Table { .. }) => 1,
-            Request::Answer(Command::Condense { .. } | Command::Confirm { .. }) => 1,
-            Request::Answer(_) => 0,
-        }
-    }
-}
-
-/// A command whose output is made whole before any of it is written. Words of the command line are
-/// kept as bytes, which need not be UTF-8.
-#[derive(Drop)]
-pub enum Command {
-    /// The `n` greatest keys of records, by counters that grow up to `memory` megabytes.
-    Top {
-        n: u64,
-        rows: RowOptions,
-        workers: u64,
-        memory: u64,
-    },
-    /// The saved summary of records.
-    Summarise {
-        k: u64,
-        method: Vec<u8>,
-        workers: u64,
-    },
-    /// The saved table of records.
-    Table {
-        width: u64,
-        depth: u64,
-        seed: u64,
-        workers: u64,
-    },
-    /// Saved files merged.
-    Merge {
-        first: Vec<u8>,
-        others: Vec<Vec<u8>>,
-    },
-    /// What a saved file says of keys.
-    Ask {
-        file: Vec<u8>,
-        keys: Vec<Vec<u8>>,
-        decimals: u8,
-    },
-    /// All keys of a saved summary.
-    List {
-        file: Vec<u8>,
-        decimals: u8,
-    },
-    /// What is in a saved file.
-    Describe {
-        file: Vec<u8>,
-    },
-    /// Records made fewer, by a saved summary.
-    Condense {
-        file: Vec<u8>,
-        workers: u64,
-    },
-    /// The heavy keys of a saved summary in records.
-    Confirm {
-        file: Vec<u8>,
-        threshold: Share,
-        rows: RowOptions,
-        workers: u64,
-    },
-}
-
 /// Why a command line asks for nothing.
 #[derive(Drop)]
 pub enum UsageError {
@@ -207,17 +161,12 @@ impl From<AllocError> for UsageError {
     }
 }
 
-/// Gives the bytes of the first word of `name`, or else those of `other`.
-fn word_or(
-    alloc: Global,
-    found: &ArgMatches,
-    name: &str,
-    other: &str,
-) -> Result<Vec<u8>, AllocError>
+/// Gives the bytes of the text of `argument`, or else those of its default.
+fn word(alloc: Global, found: &ArgMatches, argument: Named) -> Result<Vec<u8>, AllocError>
     ensures { IfOk result (λ word.
-        word.items ≡ first_word other.now (found_of found.now) name.now) }
+        word.items ≡ word_of (text_found (λ t. t.now) (found_of found.now) argument.entry)) }
 {
-    bytes_of(alloc, found.get_str(name).unwrap_or(other))
+    bytes_of(alloc, argument.text(found))
 }
 
 /// Collects the bytes of all words of `name`.
@@ -285,7 +234,7 @@ fn columns(alloc: Global, found: &ArgMatches, name: &str) -> Result<Vec<Vec<u8>>
 /// Gives the bytes of the first word of `name`, if one is given.
 fn word_given(alloc: Global, found: &ArgMatches, name: &str) -> Result<Option<Vec<u8>>, AllocError>
     ensures { IfOk result (λ word. option_map (λ w. w.items) word
-        ≡ option_map word_of (first_value (found_of found.now) name.now)) }
+        ≡ word_given (found_of found.now) name.now) }
 {
     match found.get_str(name) {
         Some(text) => Ok(Some(bytes_of(alloc, text)?)),
@@ -293,25 +242,18 @@ fn word_given(alloc: Global, found: &ArgMatches, name: &str) -> Result<Option<Ve
     }
 }
 
-/// Gives the number of digits that a weight may have after a point.
-fn decimals_of(found: &ArgMatches) -> u8
-    ensures { AreDecimals (found_of found.now) result }
-{
-    found.get_one(DECIMALS).unwrap_or(0)
-}
-
 /// Reads how a record is written: objects have no delimiters, lines no fields, and squeezed fields
 /// no quotes.
 fn format_of(found: &ArgMatches) -> Format
     ensures { IsFormat (found_of found.now) result }
 {
-    if found.get_flag(JSON) {
+    if JSON.is_given(found) {
         Format::Json
-    } else if found.get_flag(LINES) {
+    } else if LINES.is_given(found) {
         Format::Lines
-    } else if found.get_flag(SQUEEZE) {
+    } else if SQUEEZE.is_given(found) {
         Format::Squeezed
-    } else if found.get_flag(NO_QUOTES) {
+    } else if NO_QUOTES.is_given(found) {
         Format::Unquoted
     } else {
         Format::Csv
@@ -324,18 +266,18 @@ fn record_words(alloc: Global, found: &ArgMatches) -> Result<RecordWords, AllocE
 {
     let layout = LayoutWords {
         format: format_of(found),
-        delimiter: word_given(alloc, found, DELIMITER)?,
-        has_header: found.get_flag(HEADER),
-        key: columns(alloc, found, KEY)?,
-        weight: word_given(alloc, found, WEIGHT)?,
-        until: word_or(alloc, found, UNTIL, "")?,
-        prefix: found.get_one(PREFIX),
-        allow_zero: found.get_flag(ALLOW_ZERO),
-        decimals: decimals_of(found),
-        bad_as: word_given(alloc, found, BAD_AS)?,
+        delimiter: word_given(alloc, found, DELIMITER.name)?,
+        has_header: HEADER.is_given(found),
+        key: columns(alloc, found, KEY.name)?,
+        weight: word_given(alloc, found, WEIGHT.name)?,
+        until: word(alloc, found, UNTIL)?,
+        prefix: PREFIX.number_given(found),
+        allow_zero: ALLOW_ZERO.is_given(found),
+        decimals: DECIMALS.digit(found),
+        bad_as: word_given(alloc, found, BAD_AS.name)?,
     };
     Ok(RecordWords {
-        files: words(alloc, found, RECORDS)?,
+        files: words(alloc, found, RECORDS.name)?,
         layout,
     })
 }
@@ -355,195 +297,88 @@ fn tree_of(word: Vec<u8>) -> Tree
 
 /// Reads the threshold that is asked for, if one is.
 fn threshold_of(alloc: Global, found: &ArgMatches) -> Result<Share, AllocError>
-    ensures { IfOk result
-        (GivesShare (first_value (found_of found.now) (codes "threshold"))) }
+    ensures { IfOk result (GivesShare (first_value (found_of found.now) THRESHOLD.name.now)) }
 {
-    match found.get_str("threshold") {
+    match found.get_str(THRESHOLD.name) {
         Some(text) => Ok(Share::Text(bytes_of(alloc, text)?)),
         None => Ok(Share::OfCounters),
     }
 }
 
-/// Reads which rows are printed, and how.
+/// Reads which rows are printed.
 fn rows_of(found: &ArgMatches) -> RowOptions
     ensures { AreRowOptions (found_of found.now) result }
 {
     RowOptions {
-        top: found.get_one(TOP),
-        share: found.get_flag(SHARE),
-        decimals: decimals_of(found),
+        top: TOP.number_given(found),
+        share: SHARE.is_given(found),
+        decimals: DECIMALS.digit(found),
     }
 }
 
-/// Gives the form that `word` names. `clap` takes the three forms' names alone, so that the one
-/// that isn't named here is `csv`.
-fn form_of(word: &str) -> Form
-    ensures { NamesForm word.now result }
-{
-    match word {
-        "tsv" => Form::Tsv,
-        "json" => Form::Json,
-        _ => Form::Csv,
-    }
-}
-
-/// Reads how rows are printed.
+/// Reads how rows are printed. `clap` takes the three forms' names alone, so that the one that
+/// isn't named here is `csv`.
 fn output_of(found: &ArgMatches) -> Output
     ensures { IsOutput (found_of found.now) result }
 {
+    let form = match found.get_str(OUTPUT.name) {
+        Some("tsv") => Form::Tsv,
+        Some("json") => Form::Json,
+        _ => Form::Csv,
+    };
     Output {
-        form: form_of(found.get_str(OUTPUT).unwrap_or("csv")),
-        has_names: found.get_flag(NAMES),
+        form,
+        has_names: NAMES.is_given(found),
     }
-}
-
-/// Gives the name of the saved file, which `clap` requires. Where there is none the name is empty,
-/// so that it can't be read.
-fn file_named(alloc: Global, found: &ArgMatches) -> Result<Vec<u8>, AllocError>
-    ensures { IfOk result (λ word.
-        word.items ≡ first_word [] (found_of found.now) (codes "FILE")) }
-{
-    word_or(alloc, found, "FILE", "")
 }
 
 /// Whether a plan is asked for, by one of its options.
 fn asks_plan(found: &ArgMatches) -> bool
     ensures { result ≡ asks_plan (found_of found.now) }
 {
-    found.contains_id("pieces")
-        || found.contains_id("tree")
-        || found.contains_id("width")
-        || found.contains_id("depth")
-        || found.contains_id("seed")
+    PLAN.iter().any(|argument| found.contains_id(argument.name))
 }
 
-/// Reads the report that is asked for.
-fn report(alloc: Global, found: &ArgMatches) -> Result<Request, AllocError>
-    ensures { IfOk result (λ asked. (name : Text) → IsReportName name
-        → AsksFor name (found_of found.now) asked) }
+/// Reads what a report is of, and how it is made. A command with another `verb` has some of it.
+fn options_of(alloc: Global, verb: Verb, found: &ArgMatches) -> Result<ReportOptions, AllocError>
+    ensures { IfOk result (AreOptions verb (found_of found.now)) }
 {
-    let options = ReportOptions {
-        k: K.of(found),
+    Ok(ReportOptions {
+        k: K.number(found),
         threshold: threshold_of(alloc, found)?,
-        workers: WORKERS.of(found),
-        pieces: PIECES.of(found),
-        tree: tree_of(word_or(alloc, found, "tree", "balanced")?),
-        width: WIDTH.of(found),
-        depth: DEPTH.of(found),
-        seed: SEED.of(found),
-    };
-    Ok(Request::Report {
-        options,
-        rows: rows_of(found),
-        by_plan: asks_plan(found),
+        workers: verb.workers(found),
+        pieces: PIECES.number(found),
+        tree: tree_of(word(alloc, found, TREE)?),
+        width: WIDTH.number(found),
+        depth: DEPTH.number(found),
+        seed: SEED.number(found),
     })
 }
 
-fn top(found: &ArgMatches) -> Request
-    ensures { AsksFor (codes "top") (found_of found.now) result }
-{
-    Request::Answer(Command::Top {
-        n: GREATEST.of(found),
-        rows: rows_of(found),
-        workers: WORKERS.of(found),
-        memory: TOP_MEMORY.of(found),
-    })
-}
-
-fn summarise(alloc: Global, found: &ArgMatches) -> Result<Request, AllocError>
-    ensures { IfOk result (AsksFor (codes "summarise") (found_of found.now)) }
-{
-    let method = word_or(alloc, found, "method", "mg")?;
-    Ok(Request::Answer(Command::Summarise {
-        k: K.of(found),
-        method,
-        workers: SUMMARY_WORKERS.of(found),
-    }))
-}
-
-fn table(found: &ArgMatches) -> Request
-    ensures { AsksFor (codes "table") (found_of found.now) result }
-{
-    Request::Answer(Command::Table {
-        width: WIDTH.of(found),
-        depth: DEPTH.of(found),
-        seed: SEED.of(found),
-        workers: WORKERS.of(found),
-    })
-}
-
-fn merge(alloc: Global, found: &ArgMatches) -> Result<Request, AllocError>
-    ensures { IfOk result (AsksFor (codes "merge") (found_of found.now)) }
-{
-    let first = file_named(alloc, found)?;
-    let others = after_first(words(alloc, found, "FILE")?);
-    Ok(Request::Answer(Command::Merge { first, others }))
-}
-
-fn ask(alloc: Global, found: &ArgMatches) -> Result<Request, AllocError>
-    ensures { IfOk result (AsksFor (codes "ask") (found_of found.now)) }
-{
-    let file = file_named(alloc, found)?;
-    let keys = words(alloc, found, "KEY")?;
-    Ok(Request::Answer(Command::Ask {
-        file,
-        keys,
-        decimals: decimals_of(found),
-    }))
-}
-
-fn confirm(alloc: Global, found: &ArgMatches) -> Result<Request, AllocError>
-    ensures { IfOk result (AsksFor (codes "confirm") (found_of found.now)) }
-{
-    let file = file_named(alloc, found)?;
-    let threshold = threshold_of(alloc, found)?;
-    Ok(Request::Answer(Command::Confirm {
-        file,
-        threshold,
-        rows: rows_of(found),
-        workers: WORKERS.of(found),
-    }))
-}
-
-/// Reads what the command `name` asks for. `clap` takes the ten commands' names alone, so that
-/// the one that isn't named here is `report`.
-fn request_of(alloc: Global, name: &str, found: &ArgMatches) -> Result<Request, AllocError>
+/// Reads what the command `name` asks for.
+fn asked_of(alloc: Global, name: &str, found: &ArgMatches) -> Result<Asked, AllocError>
     ensures { IfOk result (AsksFor name.now (found_of found.now)) }
 {
-    match name {
-        "top" => Ok(top(found)),
-        "summarise" => summarise(alloc, found),
-        "table" => Ok(table(found)),
-        "merge" => merge(alloc, found),
-        "ask" => ask(alloc, found),
-        "list" => Ok(Request::Answer(Command::List {
-            file: file_named(alloc, found)?,
-            decimals: decimals_of(found),
-        })),
-        "describe" => Ok(Request::Answer(Command::Describe {
-            file: file_named(alloc, found)?,
-        })),
-        "condense" => Ok(Request::Answer(Command::Condense {
-            file: file_named(alloc, found)?,
-            workers: WORKERS.of(found),
-        })),
-        "confirm" => confirm(alloc, found),
-        _ => report(alloc, found),
-    }
-}
-
-/// Reads how many megabytes of a pipe the command `name` keeps in memory.
-fn memory_of(name: &str, found: &ArgMatches) -> u64
-    ensures { IsMemoryOf name.now (found_of found.now) result }
-{
-    match name {
-        "top" => TOP_MEMORY.of(found),
-        _ => MEMORY.of(found),
-    }
+    let verb = Verb::of(name);
+    Ok(Asked {
+        verb,
+        options: options_of(alloc, verb, found)?,
+        by_plan: asks_plan(found),
+        method: word(alloc, found, METHOD)?,
+        greatest: GREATEST.number(found),
+        memory: verb.memory(found),
+        rows: rows_of(found),
+        output: output_of(found),
+        files: words(alloc, found, SAVED_FILES.name)?,
+        keys: words(alloc, found, KEYS.name)?,
+        records: record_words(alloc, found)?,
+        tells_progress: PROGRESS.is_given(found),
+        explains: EXPLAIN.is_given(found),
+    })
 }
 
 /// Reads what `words` ask for, the first of which is the program's name.
-fn request_in(alloc: Global, words: &[Vec<u8>]) -> Result<Invocation, UsageError>
+fn request_in(alloc: Global, words: &[Vec<u8>]) -> Result<Asked, UsageError>
     ensures asked { IfOk result (IsAskedBy (map (λ w. w.items) words.now)) }
     ensures refused { IfErr result (MayRefuse (map (λ w. w.items) words.now)) }
 {
@@ -555,18 +390,11 @@ fn request_in(alloc: Global, words: &[Vec<u8>]) -> Result<Invocation, UsageError
     let Some((name, found)) = matches.subcommand() else {
         unreachable!("a command is required");
     };
-    Ok(Invocation {
-        request: request_of(alloc, name, found)?,
-        records: record_words(alloc, found)?,
-        tells_progress: found.get_flag(PROGRESS),
-        explains: found.get_flag(EXPLAIN),
-        output: output_of(found),
-        memory: memory_of(name, found),
-    })
+    Ok(asked_of(alloc, name, found)?)
 }
 
 /// Reads what the words of `source` ask for.
-pub fn read_request<W: WordSource>(source: &W, alloc: Global) -> Result<Invocation, UsageError>
+pub fn read_request<W: WordSource>(source: &W, alloc: Global) -> Result<Asked, UsageError>
     ensures asked { IfOk result (IsAskedFrom (W.gives source.now)) }
     ensures refused { IfErr result (MayRefuseFrom (W.gives source.now)) }
 {

@@ -11,7 +11,7 @@ returns-then-by_plan-clause-made g c =
     let records = c.in_ok-records.records in
     if_ok_more c.report_rows.result
     (λ bytes made. of_records _ _ _ records.layout (records_known g.H.Reader.Read.remaining records) c.in_ok-records.ensures.records
-    (made.0, planned c.args.by_plan c.if-by_plan.true made.1)) c.report_rows.ensures.rows
+    (made.0, planned c.args.asked.now.by_plan c.if-by_plan.true made.1)) c.report_rows.ensures.rows
 
 pub returns-then-by_plan-clause-refused : goal.returns-then-by_plan-clause-refused
 returns-then-by_plan-clause-refused g c =
@@ -26,7 +26,7 @@ returns-in_err-bytes-clause-refused g c =
     let opened = c.in_ok-opened.opened in
     let files = c.in_ok-files.files in
     rw (p.1, p.2) (inr (of_records _ _ _ files.layout (texts_known g.H.File.ReadAt.bytes files.layout files.files.items)
-    (records_are_of (g.H.Host.opens c.args.host.now) c.args.words.now opened.layout files.layout g.H.Host.text g.H.File.ReadAt.bytes
+    (records_are_of (g.H.Host.opens c.args.host.now) c.args.asked.now.records opened.layout files.layout g.H.Host.text g.H.File.ReadAt.bytes
     opened.inputs.items files.files.items c.in_ok-files.ensures.layout c.in_ok-opened.ensures.layout c.in_ok-opened.ensures.opened
     c.in_ok-files.ensures.texts)
     (rw (c.records.ensures.layout, c.records.ensures.sources) at c.in_err-bytes.ensures.refused)))
@@ -37,10 +37,10 @@ returns-clause-made g c =
     let files = c.in_ok-files.files in
     let made = rw (c.records.ensures.layout, c.records.ensures.sources) at c.in_ok-bytes.ensures.rows in
     of_records _ _ _ files.layout (texts_known g.H.File.ReadAt.bytes files.layout files.files.items)
-    (records_are_of (g.H.Host.opens c.args.host.now) c.args.words.now opened.layout files.layout g.H.Host.text g.H.File.ReadAt.bytes
+    (records_are_of (g.H.Host.opens c.args.host.now) c.args.asked.now.records opened.layout files.layout g.H.Host.text g.H.File.ReadAt.bytes
     opened.inputs.items files.files.items c.in_ok-files.ensures.layout c.in_ok-opened.ensures.layout c.in_ok-opened.ensures.opened
     c.in_ok-files.ensures.texts)
-    (made.0, tallied c.args.by_plan c.if-by_plan.false made.1)
+    (made.0, tallied c.args.asked.now.by_plan c.if-by_plan.false made.1)
 
 pub returns-in_err-records-clause-refused : goal.returns-in_err-records-clause-refused
 returns-in_err-records-clause-refused g c =

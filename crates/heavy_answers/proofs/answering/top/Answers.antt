@@ -11,7 +11,7 @@ returns-in_err-bytes-clause-refused g c =
     let opened = c.in_ok-opened.opened in
     let files = c.in_ok-files.files in
     rw (p.1, p.2) (inr (inr (inr (of_records _ _ _ files.layout (texts_known g.H.File.ReadAt.bytes files.layout files.files.items)
-    (records_are_of (g.H.Host.opens c.args.host.now) c.args.words.now opened.layout files.layout g.H.Host.text g.H.File.ReadAt.bytes
+    (records_are_of (g.H.Host.opens c.args.host.now) c.args.asked.now.records opened.layout files.layout g.H.Host.text g.H.File.ReadAt.bytes
     opened.inputs.items files.files.items c.in_ok-files.ensures.layout c.in_ok-opened.ensures.layout c.in_ok-opened.ensures.opened
     c.in_ok-files.ensures.texts)
     (rw (c.records.ensures.layout, c.records.ensures.sources, c.saturating_mul.ensures) at c.in_err-bytes.ensures.refused)))))
@@ -21,7 +21,7 @@ returns-clause-made g c =
     let opened = c.in_ok-opened.opened in
     let files = c.in_ok-files.files in
     of_records _ _ _ files.layout (texts_known g.H.File.ReadAt.bytes files.layout files.files.items)
-    (records_are_of (g.H.Host.opens c.args.host.now) c.args.words.now opened.layout files.layout g.H.Host.text g.H.File.ReadAt.bytes
+    (records_are_of (g.H.Host.opens c.args.host.now) c.args.asked.now.records opened.layout files.layout g.H.Host.text g.H.File.ReadAt.bytes
     opened.inputs.items files.files.items c.in_ok-files.ensures.layout c.in_ok-opened.ensures.layout c.in_ok-opened.ensures.opened
     c.in_ok-files.ensures.texts)
     (rw (c.records.ensures.layout, c.records.ensures.sources) at c.in_ok-bytes.ensures.rows)

@@ -24,14 +24,7 @@ returns-clause-asked c = record {
       ∙ found_together (λ b. (out-SubCommand (box_value b)).name.now)
       (λ b. ((out-SubCommand (box_value b)).name.now, rows_of (found_of (out-SubCommand (box_value b)).matches))) (λ b. refl) (out-ArgMatches c.in-Ok.matches).subcommand c.in-Some.name.now (rows_of (found_of c.in-Some.found.now))
       c.in-Some.ensures.name c.in-Some.ensures.rows;
-  request = c.in_ok-request_of.ensures;
-  records = c.in_ok-record_words.ensures;
-  told = c.get_flag.ensures.value;
-  untold = c.get_flag.ensures.none;
-  explained = c.get_flag-2.ensures.value;
-  unexplained = c.get_flag-2.ensures.none;
-  output = c.output_of.ensures;
-  memory = c.memory_of.ensures;
+  asks = c.in_ok-asked_of.ensures;
 }
 
 pub returns-in-Err-clause-refused : goal.returns-in-Err-clause-refused
