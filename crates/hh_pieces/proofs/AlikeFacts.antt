@@ -1,7 +1,7 @@
 -- What a layout makes of a record doesn't depend on the ends of its long fields, nor on the fields behind those that it reads.
 use Rattle.std.proofs.Common.{◌≡◌, ◌≤◌, ◌<◌, ◌+◌, ◌∷◌, ◌++◌, ◌∙◌, inl, inr, ℕ, suc, zero, List, [], length, map, take, drop, Bool, true, false, Option, Some, None, Err, refl, sym, ap, arith, length-append, length-drop, length-take, take_all}
 use Rattle.std.specs.Prelude.{⊤, All, SomeIff, ◌⊎◌, ◌^◌, ◌==◌, ◌&&◌, IfSome, not, nat_le, option_map, option_and_then, if◌then◌else◌}
-use Rattle.std.specs.List.{AllByRecursion, list_all}
+use Rattle.std.specs.List.{AllByRecursion, filter, list_all}
 use Rattle.std.specs.Option.{option_zip}
 use Rattle.std.proofs.lemmas.Bool.{lt-leb, ne_eqb}
 use Rattle.std.proofs.lemmas.List.{map-id}
@@ -12,15 +12,15 @@ use Rattle.csv.specs.Writing.{default_writer, escaped, field_text, fields_text, 
 use Rattle.hh_stream.specs.Digits.{is_digit, is_number}
 use Rattle.hh_stream.specs.Weights.{max_key_len}
 use Rattle.hh_records.specs.Decimals.{is_whole, point_from, units_at, units_of}
-use Rattle.hh_records.specs.Formats.{Part, has_quotes, is_whole_field, part_said, with_part}
-use Rattle.hh_records.specs.Layouts.{Columns, adds, every, fields_at, is_hyphen, key_of, parts_at, parts_by, weight_at, weight_by}
+use Rattle.hh_records.specs.Formats.{Names, Part, fields_by, is_empty, is_whole_field, part_said, with_part}
+use Rattle.hh_records.specs.Layouts.{Columns, adds, every, fields_at, is_hyphen, key_of, member_names, parts_at, parts_by, weight_at, weight_by}
 use Rattle.hh_records.specs.Streams.{Fields, Parts, item_of_key, parts_of}
 use Rattle.hh_records.specs.declared.format.Format.{Format}
 use Rattle.hh_records.specs.declared.format.Format.TheVariants as format
 use Rattle.hh_records.specs.declared.layout.Layout.{Layout}
 use Rattle.hh_faults.specs.declared.records.BadRecordCause.TheVariants as cause
 use Rattle.hh_records.proofs.FormatFacts.{whole-parts, with-whole}
-use Rattle.hh_pieces.specs.LongRecords.{ReadsWithin, first_ones, kept_of}
+use Rattle.hh_pieces.specs.LongRecords.{ReadsWithin, filled, first_ones, kept_of}
 use Rattle.hh_pieces.specs.declared.long_record.Limits.{Limits}
 
 -- ---- fields and records that are alike
@@ -300,35 +300,91 @@ fields-cut : (most : Option ℕ) (fs : Fields) → IfSome most (λ n. max_key_le
 fields-cut most [] long = tt
 fields-cut most (f ∷ fs) long = (field-cut most f long, fields-cut most fs long)
 
--- a record adds what is kept of it does
-kept-adds : (layout : Layout) (few : layout.decimals ≤ 255) (limits : Limits) (columns : Columns) (part : Part) (t : ℕ)
-    (fs : Fields) → is_whole_field part ≡ true → ReadsWithin columns limits.fields
-    → IfSome limits.bytes (λ n. max_key_len < n)
-    → adds layout t (parts_by columns part (kept_of limits fs)) ≡ adds layout t (parts_by columns part fs)
-kept-adds layout few limits columns part t fs whole within long =
-    ap (adds layout t) (parts-among limits.fields columns part (map (first_ones limits.bytes) fs) within)
-    ∙ adds-alike layout few t _ _ (parts-alike columns part _ fs whole (fields-cut limits.bytes fs long))
+-- a format of fields that are cut at a delimiter, and whether empty ones count for nothing
+abbrev pub IsCut : Format → Bool → Type 0
+IsCut format.Csv squeezes = squeezes ≡ false
+IsCut format.Unquoted squeezes = squeezes ≡ false
+IsCut format.Squeezed squeezes = squeezes ≡ true
+IsCut format.Lines squeezes = ⊥
+IsCut format.Json squeezes = ⊥
 
-quoted-is-csv : (f : Format) → has_quotes f ≡ true → f ≡ format.Csv
-quoted-is-csv format.Csv e = refl
-quoted-is-csv format.Unquoted e = cc e
-quoted-is-csv format.Squeezed e = cc e
-quoted-is-csv format.Lines e = cc e
-quoted-is-csv format.Json e = cc e
+cut-fields : (f : Format) (squeezes : Bool) (names : Names) (fs : Fields) → IsCut f squeezes → fields_by f names fs ≡ filled squeezes fs
+cut-fields format.Csv squeezes names fs e = rw e refl
+cut-fields format.Unquoted squeezes names fs e = rw e refl
+cut-fields format.Squeezed squeezes names fs e = rw e refl
+cut-fields format.Lines squeezes names fs e = absurd e
+cut-fields format.Json squeezes names fs e = absurd e
+
+-- fields that are not empty stay
+filled-twice : (squeezes : Bool) (most : Option ℕ) (fs : Fields)
+    → filled squeezes (first_ones most (filled squeezes fs)) ≡ first_ones most (filled squeezes fs)
+filled-twice false most fs = refl
+filled-twice true None fs = all fs
+  where
+    all : (fs : Fields) → filter (λ f. not (is_empty f)) (filter (λ f. not (is_empty f)) fs) ≡ filter (λ f. not (is_empty f)) fs
+    all [] = refl
+    all ([] ∷ fs) = all fs
+    all ((b ∷ f) ∷ fs) = ap (λ (gs : Fields). (b ∷ f) ∷ gs) (all fs)
+filled-twice true (Some n) fs = by n fs
+  where
+    by : (n : ℕ) (fs : Fields)
+        → filter (λ f. not (is_empty f)) (take n (filter (λ f. not (is_empty f)) fs)) ≡ take n (filter (λ f. not (is_empty f)) fs)
+    by zero fs = refl
+    by (suc n) [] = refl
+    by (suc n) ([] ∷ fs) = by (suc n) fs
+    by (suc n) ((b ∷ f) ∷ fs) = ap (λ (gs : Fields). (b ∷ f) ∷ gs) (by n fs)
+
+-- a field that is cut short is empty where it was
+cut-filled : (squeezes : Bool) (most : Option ℕ) (fs : Fields) → IfSome most (λ n. 0 < n)
+    → filled squeezes (map (first_ones most) fs) ≡ map (first_ones most) (filled squeezes fs)
+cut-filled false most fs some = refl
+cut-filled true most [] some = refl
+cut-filled true None ([] ∷ fs) some = cut-filled true None fs some
+cut-filled true None ((b ∷ f) ∷ fs) some = ap (λ (gs : Fields). (b ∷ f) ∷ gs) (cut-filled true None fs some)
+cut-filled true (Some zero) (f ∷ fs) some = absurd (omega (arith, some))
+cut-filled true (Some (suc n)) ([] ∷ fs) some = cut-filled true (Some (suc n)) fs some
+cut-filled true (Some (suc n)) ((b ∷ f) ∷ fs) some =
+    ap (λ (gs : Fields). (b ∷ take n f) ∷ gs) (cut-filled true (Some (suc n)) fs some)
 
 -- ---- what is kept of the records of a layout
 module _ (layout : Layout) (columns : Columns) (limits : Limits) (t : ℕ) (fs : Fields) where
   abbrev Adds : Type 0
   Adds = adds layout t (parts_at layout columns (kept_of limits fs)) ≡ adds layout t (parts_at layout columns fs)
 
-  pub keeps-all : limits.fields ≡ None → limits.bytes ≡ None → Adds
-  keeps-all fields bytes = rw (fields, bytes, map-id fs) refl
+  pub keeps-all : limits.squeezes ≡ false → limits.fields ≡ None → limits.bytes ≡ None → Adds
+  keeps-all squeezes fields bytes = rw (squeezes, fields, bytes, map-id fs) refl
 
-  pub keeps-enough : has_quotes layout.format ≡ true → is_whole_field (part_said layout.part) ≡ true
-      → ReadsWithin columns limits.fields → IfSome limits.bytes (λ n. max_key_len < n) → layout.decimals ≤ 255 → Adds
-  keeps-enough quotes whole within long few =
-      rw (quoted-is-csv layout.format quotes)
-      (kept-adds layout few limits columns (part_said layout.part) t fs whole within long)
+  cut-some : (most : Option ℕ) → IfSome most (λ n. max_key_len < n) → IfSome most (λ n. 0 < n)
+  cut-some None long = tt
+  cut-some (Some n) long = omega (arith, long)
+
+  -- the fields that are kept are read as all are
+  kept-parts : IsCut layout.format limits.squeezes → IfSome limits.bytes (λ n. 0 < n)
+      → parts_at layout columns (kept_of limits fs)
+      ≡ parts_by columns (part_said layout.part) (first_ones limits.fields (map (first_ones limits.bytes) (filled limits.squeezes fs)))
+  kept-parts cut some =
+      ap (parts_by columns (part_said layout.part)) (cut-fields layout.format limits.squeezes (member_names layout) (kept_of limits fs) cut
+      ∙ filled-twice limits.squeezes limits.fields (map (first_ones limits.bytes) fs)
+      ∙ ap (first_ones limits.fields) (cut-filled limits.squeezes limits.bytes fs some))
+
+  pub keeps-enough : IsCut layout.format limits.squeezes → ReadsWithin columns limits.fields
+      → IfSome limits.bytes (λ _. is_whole_field (part_said layout.part) ≡ true) → IfSome limits.bytes (λ n. max_key_len < n)
+      → IfSome limits.bytes (λ _. layout.decimals ≤ 255) → Adds
+  keeps-enough cut within whole long few =
+      ap (adds layout t) (kept-parts cut (cut-some limits.bytes long) ∙ parts-among limits.fields columns (part_said layout.part) _ within)
+      ∙ by limits.bytes whole long few
+      ∙ sym (ap (λ (r : Fields). adds layout t (parts_by columns (part_said layout.part) r))
+      (cut-fields layout.format limits.squeezes (member_names layout) fs cut))
+    where
+      by : (bytes : Option ℕ) → IfSome bytes (λ _. is_whole_field (part_said layout.part) ≡ true) → IfSome bytes (λ n. max_key_len < n)
+          → IfSome bytes (λ _. layout.decimals ≤ 255)
+          → adds layout t (parts_by columns (part_said layout.part) (map (first_ones bytes) (filled limits.squeezes fs)))
+          ≡ adds layout t (parts_by columns (part_said layout.part) (filled limits.squeezes fs))
+      by None whole long few =
+          ap (λ (r : Fields). adds layout t (parts_by columns (part_said layout.part) r)) (map-id (filled limits.squeezes fs))
+      by (Some n) whole long few =
+          adds-alike layout few t _ _ (parts-alike columns (part_said layout.part) _ (filled limits.squeezes fs) whole
+          (fields-cut (Some n) (filled limits.squeezes fs) long))
 
 -- ---- the greatest place
 pub weaker-below : (o : Option ℕ) (m n : ℕ) → m ≤ n → IfSome o (λ i. i ≤ m) → IfSome o (λ i. i ≤ n)

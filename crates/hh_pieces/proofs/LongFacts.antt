@@ -18,7 +18,7 @@ use Rattle.hh_pieces.proofs.CutFacts.{no-records, runs, runs-all, runs-next}
 use Rattle.hh_pieces.specs.Lines.{is_line_end}
 use Rattle.hh_pieces.specs.Pieces.{is_outside, state_after}
 use Rattle.hh_pieces.specs.Quotes.{mark_len}
-use Rattle.hh_pieces.specs.LongRecords.{Holds, IsFed, IsFresh, LeavesOutside, LeavesRecords, first_ones, kept_of, state_of}
+use Rattle.hh_pieces.specs.LongRecords.{Holds, IsFed, IsFresh, LeavesOutside, LeavesRecords, filled, first_ones, kept_of, state_of}
 use Rattle.hh_pieces.specs.declared.long_record.Limits.{Limits}
 use Rattle.hh_pieces.specs.declared.long_record.LongRecord.{LongRecord}
 
@@ -28,9 +28,16 @@ ones-none None = refl
 ones-none (Some zero) = refl
 ones-none (Some (suc n)) = refl
 
+filled-none : (squeezes : Bool) → filled squeezes [] ≡ []
+filled-none false = refl
+filled-none true = refl
+
 pub fresh-holds : (limits : Limits) (rec : LongRecord) → IsFresh rec → Holds limits rec [] []
-fresh-holds limits rec fresh =
-    (fresh.0 ∙ sym (ones-none limits.fields), fresh.1, fresh.2 ∙ sym (ones-none limits.bytes))
+fresh-holds limits rec fresh = (
+  fresh.0 ∙ sym (ap (first_ones limits.fields) (filled-none limits.squeezes) ∙ ones-none limits.fields),
+  fresh.1,
+  fresh.2 ∙ sym (ones-none limits.bytes),
+)
 
 pub fresh-tracks : (cfg : Config) (p : Option (List ℕ)) (rec : LongRecord) → IsFresh rec
     → Tracks cfg st.StartRecord p (state_of rec.spot) [] [] p

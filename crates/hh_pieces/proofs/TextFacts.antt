@@ -23,7 +23,7 @@ use Rattle.hh_pieces.specs.declared.texts.Records.{Records}
 
 -- ---- a text that is opened
 -- all of a record is kept
-all-kept : (fs row : Fields) → row ≡ kept_of (record { fields = None; bytes = None }) fs → row ≡ fs
+all-kept : (fs row : Fields) → row ≡ kept_of (record { squeezes = false; fields = None; bytes = None }) fs → row ≡ fs
 all-kept fs row e = e ∙ map_fixed (λ f. f) fs (All-from_get_or (λ (f : List ℕ). f ≡ f) fs [] (λ i l. refl))
 
 -- after its header
@@ -32,7 +32,7 @@ module _ (layout : Layout) (headed : layout.has_header ≡ true) (row : Fields) 
   cfg = config_of layout
 
   abbrev all : Limits
-  all = record { fields = None; bytes = None }
+  all = record { squeezes = false; fields = None; bytes = None }
 
   text-headed : (bytes : List ℕ) → text_parts layout bytes ≡ headed_parts layout (records cfg (strip_bom bytes))
   text-headed bytes = rw headed refl

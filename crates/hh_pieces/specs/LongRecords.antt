@@ -1,5 +1,6 @@
 -- Records that are read byte by byte, of which no more is kept than a layout reads.
-use Rattle.std.specs.Prelude.{◌≡◌, ◌<◌, All, IfSome, nat_lt, ℕ, Bool, true, false, List, [], ◌∷◌, map, take, Option, Some, None, ⊤}
+use Rattle.std.specs.List.{filter}
+use Rattle.std.specs.Prelude.{◌≡◌, ◌<◌, All, IfSome, nat_lt, not, ℕ, Bool, true, false, List, [], ◌∷◌, map, take, Option, Some, None, ⊤}
 use Rattle.csv.specs.Machine.{Feeds, ends_at_end}
 use Rattle.csv.specs.Reading.{records, strip_bom}
 use Rattle.csv.specs.Records.{fields_of, partial_of}
@@ -8,6 +9,7 @@ use Rattle.csv.specs.declared.parser.Action.TheVariants as act
 use Rattle.csv.specs.declared.parser.Config.{Config}
 use Rattle.csv.specs.declared.parser.State.{State}
 use Rattle.csv.specs.declared.parser.State.TheVariants as st
+use Rattle.hh_records.specs.Formats.{is_empty}
 use Rattle.hh_records.specs.Layouts.{Columns, configured}
 use Rattle.hh_records.specs.Streams.{Fields}
 use Rattle.hh_faults.specs.declared.records.TextError.{TextError}
@@ -56,9 +58,14 @@ abbrev pub is_kept : Option ℕ → ℕ → Bool
 is_kept None count = true
 is_kept (Some n) count = nat_lt count n
 
+-- these fields, but empty ones where they count for nothing
+abbrev pub filled : Bool → Fields → Fields
+filled false fs = fs
+filled true fs = filter (λ f. not (is_empty f)) fs
+
 -- what is kept of the fields of a record
 abbrev pub kept_of : Limits → Fields → Fields
-kept_of limits fs = first_ones limits.fields (map (first_ones limits.bytes) fs)
+kept_of limits fs = first_ones limits.fields (filled limits.squeezes (map (first_ones limits.bytes) fs))
 
 -- the fields that these columns read are among the first ones
 abbrev pub ReadsWithin : Columns → Option ℕ → Type 0

@@ -2,11 +2,12 @@
 //! they are.
 
 ghost use Rattle.std.specs.Io.KnownBytes.{Keeps, prepend_known};
-ghost use Rattle.std.specs.Prelude.{◌≡◌, ◌≤◌, ◌<◌, ◌-◌, ◌++◌, ◌∷◌, [], ℕ, List, IfErr, IfOk, OnOk, Some, false, true, length, option_map, slice_index, take};
+ghost use Rattle.std.specs.Prelude.{◌≡◌, ◌≤◌, ◌<◌, ◌-◌, ◌++◌, ◌∷◌, [], ℕ, List, IfErr, IfOk, IfSome, OnOk, Some, false, true, length, option_map, slice_index, take};
 ghost use Rattle.csv.specs.Machine.{ends_at_end, field_after, fields_after, in_field, is_end, start_field, step};
 ghost use Rattle.csv.specs.Reading.{strip_bom};
 ghost use Rattle.csv.specs.Records.{fields_of};
 ghost use Rattle.hh_stream.specs.Weights.{max_key_len};
+ghost use Rattle.hh_records.specs.Formats.{is_whole_field, part_said};
 ghost use Rattle.hh_records.specs.Layouts.{adds, parts_at};
 ghost use Rattle.hh_records.specs.Streams.{Fields};
 ghost use Rattle.hh_pieces.specs.LongRecords as spec;
@@ -18,7 +19,7 @@ use crate::cuts::mark_len;
 use crate::window::Window;
 use csv::ByteRecord;
 use hh_faults::TextError;
-use hh_records::{ColumnIndices, Columns, Layout};
+use hh_records::{ColumnIndices, Columns, Format, Layout};
 use hh_stream::MAX_KEY_LEN;
 use std::alloc::{AllocError, Global};
 use std::io::Read;
@@ -115,10 +116,11 @@ impl Syntax {
     }
 }
 
-/// How much is kept of a record: how many of its fields, and how many bytes of each. Where there is
-/// no number, all are.
+/// How much is kept of a record: whether empty fields count for nothing, how many of the others are
+/// kept, and how many bytes of each. Where there is no number, all are.
 #[derive(Clone, Copy)]
 pub(crate) struct Limits {
+    pub(crate) squeezes: bool,
     pub(crate) fields: Option<usize>,
     pub(crate) bytes: Option<usize>,
 }
@@ -142,9 +144,23 @@ fn least_long(decimals: u8) -> usize
     MAX_KEY_LEN.max(MOST_WHOLE + decimals as usize) + 1
 }
 
+/// Gives how many of the first bytes of a field `layout` reads, where there is such a number.
+fn bytes_read(layout: &Layout) -> Option<usize>
+    ensures whole { IfSome result (λ _. is_whole_field (part_said layout.now.part) ≡ true) }
+    ensures long { IfSome result (λ most. max_key_len < most) }
+    ensures small { IfSome result (λ _. layout.now.decimals ≤ 255) }
+{
+    if layout.part.is_whole() {
+        Some(least_long(layout.decimals))
+    } else {
+        None
+    }
+}
+
 impl Limits {
     /// All is kept.
     pub(crate) const NONE: Limits = Limits {
+        squeezes: false,
         fields: None,
         bytes: None,
     };
@@ -156,15 +172,21 @@ impl Limits {
             adds layout.now t (parts_at layout.now columns.now (spec.kept_of result fs))
             ≡ adds layout.now t (parts_at layout.now columns.now fs) }
     {
-        if !layout.format.has_quotes() || !layout.part.is_whole() {
-            return Limits::NONE;
-        }
+        let squeezes = match layout.format {
+            Format::Csv | Format::Unquoted => false,
+            Format::Squeezed => true,
+            Format::Lines | Format::Json => return Limits::NONE,
+        };
         let fields = match columns.indices() {
             Some(columns) => fields_read(columns),
             None => Some(MOST_PAIR + 1),
         };
-        let bytes = Some(least_long(layout.decimals));
-        Limits { fields, bytes }
+        let bytes = bytes_read(layout);
+        Limits {
+            squeezes,
+            fields,
+            bytes,
+        }
     }
 }
 
@@ -213,7 +235,8 @@ impl LongRecord {
             → Holds limits self.new (fs ++ f ∷ []) []) }
         ensures spot { OnOk result (self.new.spot ≡ self.old.spot) }
     {
-        if is_kept(limits.fields, self.row.len()) {
+        let is_filled = !limits.squeezes || !self.field.is_empty();
+        if is_filled && is_kept(limits.fields, self.row.len()) {
             self.row.push_field(self.field.as_slice())?;
         }
         self.field.clear();
