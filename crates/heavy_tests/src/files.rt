@@ -19,7 +19,8 @@ use std::thread::Threads;
 enum Course {
     /// It fails from the read with this number on; none is 0.
     Fails(u64),
-    /// Each reading from its start gives another weight.
+    /// Each reading gives another weight. It begins with two reads of the start: the first one is
+    /// for the columns.
     Changes,
 }
 
@@ -59,7 +60,7 @@ impl ReadAt for ManyRecords<'_> {
                 } else {
                     self.calls.load(Ordering::SeqCst)
                 };
-                if reading % 2 == 0 {
+                if reading / 2 % 2 == 0 {
                     text = self.second.as_bytes();
                 }
             }

@@ -4,10 +4,9 @@ ghost use Rattle.std.specs.Prelude.{IfOk, IfErr};
 ghost use Rattle.hh_commands.specs.Records.{CountsRecords};
 ghost use Rattle.hh_records.specs.Refusals.{RecordsRefused};
 
-use hh_counters::laws::counts_follow_items;
 use hh_counters::{Candidates, Counts};
 use hh_faults::ToolError;
-use hh_records::ReadRecords;
+use hh_records::{ReadRecords, gather_in_turn};
 use std::alloc::Global;
 
 /// The counts of candidates in some records, in one pass that keeps no record. An error is the one
@@ -20,7 +19,5 @@ pub fn count_records<'c, R: ReadRecords>(
     ensures counts { IfOk result (CountsRecords (R.known records) candidates.now) }
     ensures refused { IfErr result (λ fault. RecordsRefused (R.known records) fault) }
 {
-    counts_follow_items();
-    let counts = Counts::new(alloc, candidates)?;
-    Ok(records.read_into(alloc, counts)?)
+    gather_in_turn(alloc, Counts::new(alloc, candidates)?, records)
 }

@@ -16,7 +16,7 @@ pub use commands::describe::describe_file;
 pub use commands::list::list_rows;
 pub use commands::merge::{merge_bytes, merge_saved};
 pub use commands::summarise::{Method, summary_by_monitoring, summary_bytes_from};
-pub use commands::table::{drawn_table, table_bytes_from, table_of_records};
+pub use commands::table::{drawn_table, table_bytes_from};
 pub use compared::{Bounds, Comparison, Outside, key_outside};
 pub use counting::count_records;
 pub use files::{file_of, summary_in};

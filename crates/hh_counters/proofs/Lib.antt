@@ -11,4 +11,3 @@ pub mod Monitoring
 pub mod Condensing
 pub mod CondensedCounts
 pub mod CountFacts
-pub mod Weighed

@@ -1,5 +1,5 @@
 -- Keys that are counted as items come.
-use Rattle.std.specs.Prelude.{◌≡◌, ◌+◌, ◌<◌, ℕ, List, All}
+use Rattle.std.specs.Prelude.{◌+◌, ℕ, List}
 use Rattle.hh_stream.specs.Weights.{Bytes, Entry, total_of}
 use Rattle.hh_summaries.specs.Report.{counts_with, weights_at}
 
@@ -16,7 +16,3 @@ count_of ks xs = record { keys = ks; weights = weights_at ks xs; total = total_o
 -- a count after some more items
 abbrev pub count_with : Count → List Entry → Count
 count_with c xs = record { keys = c.keys; weights = counts_with c.keys xs c.weights; total = c.total + total_of xs }
-
--- some items, each with a weight, have this count
-abbrev pub CountsSome : Count → Type 0
-CountsSome c = (xs : List Entry) × All (λ (e : Entry). 0 < e.1) xs × (c ≡ count_of c.keys xs)

@@ -1,16 +1,16 @@
 //! Candidates that are lent, counted as items come.
 
-ghost use Rattle.std.specs.Prelude.{◌≡◌, ◌+◌, ◌<◌, ◌≤◌, ◌↔◌, ◌∷◌, [], IsOk, IfOk, IfSome};
-ghost use Rattle.std.specs.Prelude.{IsSome, IsTrue, filter, length, slice_index, sum, zip};
+ghost use Rattle.std.specs.Prelude.{◌≡◌, ◌+◌, ◌<◌, ◌≤◌, ◌∷◌, [], IsOk, IfOk};
+ghost use Rattle.std.specs.Prelude.{filter, length, slice_index, zip};
 ghost use Rattle.hh_stream.specs.Weights.{max_total, total_of};
 ghost use Rattle.hh_summaries.specs.Counters.{exceeds};
 ghost use Rattle.hh_summaries.specs.Report.{IsShare, rows_above};
-ghost use Rattle.hh_counters.specs.Counting.{CountsSome, count_of, count_with};
+ghost use Rattle.hh_counters.specs.Counting.{count_of, count_with};
 
 use crate::candidates::Candidates;
-use crate::laws::{counts_add_up, counts_stay_within};
+use crate::laws::{counts_add_up, counts_follow_items, counts_stay_within};
 use crate::report::{Heavy, push_row};
-use hh_stream::Stream;
+use hh_stream::{MAX_TOTAL, PieceFault, Sketch, Stream, add_each};
 use std::alloc::{AllocError, Global};
 use std::marker::Model;
 
@@ -51,32 +51,6 @@ impl<'c> Counts<'c> {
             candidates,
             weights,
             total: 0,
-        })
-    }
-
-    /// The counts of some items: what each of the candidates weighs in them, and their total. There
-    /// are none where the weights add up to more than the total, as those of no items do.
-    pub fn of_weights(
-        candidates: &'c Candidates,
-        weights: Vec<u64>,
-        total: u64,
-    ) -> Option<Counts<'c>>
-        requires lengths { length weights.items ≡ length candidates.now }
-        requires bounded { total ≤ max_total }
-        ensures counts { IfSome result (λ counts.
-            counts ≡ record { keys = candidates.now; weights = weights.items; total = total }) }
-        ensures some { IfSome result CountsSome }
-        ensures within { IsSome result ↔ (sum weights.items ≤ total) }
-    {
-        // It has the order of the keys.
-        let _len = candidates.len();
-        if !are_within(&weights, total) {
-            return None;
-        }
-        Some(Counts {
-            candidates,
-            weights,
-            total,
         })
     }
 
@@ -154,16 +128,24 @@ impl<'c> Counts<'c> {
     }
 }
 
-// Whether the weights add up to no more than the total.
-fn are_within(weights: &[u64], total: u64) -> bool
-    ensures { IsTrue result ↔ (sum weights.now ≤ total) }
-{
-    let mut left = total;
-    for weight in weights {
-        if *weight > left {
-            return false;
-        }
-        left -= *weight;
+impl<'c> Sketch for Counts<'c> {
+    ghost is_of = { λ s xs t. t ≡ count_of s.keys xs };
+
+    fn fresh(&self, alloc: Global) -> Result<Counts<'c>, AllocError> {
+        Counts::new(alloc, self.candidates)
     }
-    true
+
+    fn merge(mut self, _alloc: Global, other: Counts<'c>) -> Result<Counts<'c>, PieceFault> {
+        // The total is too large, where both count the same candidates.
+        if self.weights.len() != other.weights.len() || other.total > MAX_TOTAL - self.total {
+            return Err(PieceFault::Refused);
+        }
+        add_each(&mut self.weights, &other.weights);
+        self.total += other.total;
+        Ok(self)
+    }
+
+    fn follow_items(&self) {
+        counts_follow_items();
+    }
 }

@@ -5,6 +5,7 @@ use Rattle.std.proofs.lemmas.List.Sums.{sum_by-append, sum_by_push}
 use Rattle.std.proofs.lemmas.Nat.{mul-add-lt}
 use Rattle.std.proofs.lemmas.Bool.Decides.{nat_tests}
 use Rattle.hh_stream.specs.Ranges.{in_range}
+use Rattle.hh_stream.specs.Taking.{HaveSameSums}
 use Rattle.hh_stream.specs.Weights.{Entry, total_of}
 use Rattle.hh_countmin.specs.Family.{Coefficients, max_width}
 use Rattle.hh_countmin.specs.Table.{TableView, FitsTable, cell_at, at_cell, cell_sum, cells_by, table_of, empty_table, grid_with, grid_sum}
@@ -53,6 +54,13 @@ merged-table_of family width xs ys =
     ap₂ (λ (a b : ℕ). a + b) (cell_at-cells_by (sums xs) depth width r c lt in_row)
     (cell_at-cells_by (sums ys) depth width r c lt in_row)
     ∙ sym (sum_by-append (at_cell family width r c) xs ys)))
+
+-- items with the same sums have one table
+pub same_table : (family : Coefficients) (width : ℕ) (xs ys : List Entry) → HaveSameSums xs ys
+    → table_of family width xs ≡ table_of family width ys
+same_table family width xs ys same =
+    same_tables family width _ _ _ _ (same (λ (e : Entry). e.1))
+    (λ i. cells_by (λ r c. same (at_cell family width r c) i) (length family.rows) width)
 
 -- the table of items with a total below 2^63 meets all that a table has to
 pub table_of-fits : (family : Coefficients) (width : ℕ) (xs : List Entry) → in_range width max_width ≡ true

@@ -1,15 +1,15 @@
 //! Count-Min tables.
 
-ghost use Rattle.std.specs.Prelude.{◌≡◌, ◌≢◌, ◌+◌, ◌*◌, ◌<◌, ◌≤◌, ◌^◌, ◌↔◌, ◌==◌, ℕ, sum, length, slice_index, IfOk, IfErr, OnOk, OnErr, IsErr, IsErrOf, IsTrue, EachIndex, true, false};
+ghost use Rattle.std.specs.Prelude.{◌≡◌, ◌≢◌, ◌+◌, ◌*◌, ◌<◌, ◌≤◌, ◌^◌, ◌↔◌, ◌==◌, [], ℕ, sum, length, slice_index, IfOk, IfErr, OnOk, OnErr, IsErr, IsErrOf, IsTrue, EachIndex, true, false};
 ghost use Rattle.hh_stream.specs.Ranges.{in_range};
 ghost use Rattle.hh_countmin.specs.Family.{max_width, modulus, coefficients_of, cell_of_fingerprint};
 ghost use Rattle.hh_stream.specs.Weights.{max_total};
 ghost use Rattle.hh_countmin.specs.Faults.{IsNewFault, IsMergeFault};
-ghost use Rattle.hh_countmin.specs.Table.{FitsTable, row_at, cell_at, empty_table, grid_with, grid_sum, estimate_in, least_of_rows, raised};
+ghost use Rattle.hh_countmin.specs.Table.{FitsTable, row_at, cell_at, empty_table, grid_with, grid_sum, estimate_in, least_of_rows, raised, table_of};
 
 use crate::family::{Family, MAX_WIDTH};
 use crate::fault::TableFault;
-use hh_stream::{Key, MAX_TOTAL, in_range};
+use hh_stream::{Key, MAX_TOTAL, add_each, in_range};
 use std::alloc::{AllocError, Global};
 use std::marker::Model;
 
@@ -59,7 +59,8 @@ impl Table {
     /// [`new`](Table::new) for a width from 1 to [`MAX_WIDTH`], where only memory can be refused.
     pub fn empty(alloc: Global, family: Family, width: u64) -> Result<Table, AllocError>
         requires { in_range width max_width ≡ true }
-        ensures { IfOk result (λ table. table ≡ empty_table family width) }
+        ensures table { IfOk result (λ table. table ≡ empty_table family width) }
+        ensures none { IfOk result (λ table. table ≡ table_of family width []) }
     {
         let len = (family.depth() * width) as usize;
         let cells = vec![in alloc; 0; len]?;
@@ -166,7 +167,7 @@ impl Table {
         if other.total > MAX_TOTAL - self.total {
             return Err(TableFault::TotalTooLarge);
         }
-        add_cells(&mut self.cells, &other.cells);
+        add_each(&mut self.cells, &other.cells);
         self.total += other.total;
         Ok(())
     }
@@ -260,19 +261,6 @@ fn raise_cells(cells: &mut [u64], family: &Family, width: u64, fingerprint: u64,
     for r in 0..family.depth() {
         let cell = r * width + family.cell_of_fingerprint(r, fingerprint, width);
         cells[cell as usize] += weight;
-    }
-}
-
-// Adds other cells, one by one.
-fn add_cells(cells: &mut [u64], others: &[u64])
-    requires as_many { length cells.old ≡ length others.now }
-    requires room { EachIndex cells.old
-        (λ i. slice_index cells.old i + slice_index others.now i < 2 ^ 64) }
-    ensures { EachIndex cells.new
-        (λ i. slice_index cells.new i ≡ slice_index cells.old i + slice_index others.now i) }
-{
-    for i in 0..cells.len() {
-        cells[i] += others[i];
     }
 }
 

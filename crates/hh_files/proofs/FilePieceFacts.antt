@@ -6,8 +6,7 @@ use Rattle.std.proofs.lemmas.List.Sums.{sum_by-append}
 use Rattle.hh_stream.specs.Cuttings.{whole_of}
 use Rattle.hh_stream.specs.Taking.{Takes}
 use Rattle.hh_stream.specs.Weights.{Entry, max_total, total_of}
-use Rattle.hh_summaries.specs.Report.{heavy}
-use Rattle.hh_files.specs.ReportFiles.{AreKeysOfPieces, items_or_too_many, lists_of}
+use Rattle.hh_files.specs.ReportFiles.{items_or_too_many, lists_of}
 
 -- where the pieces are not too many, each can be read by itself
 pub each_is_read : (pieces : List (Option (List Entry))) → total_of (whole_of (map items_or_too_many pieces)) ≤ max_total
@@ -44,13 +43,3 @@ hands-over f w old new P Q (Ok x) t follows = record {
   taken = t.taken;
 }
 hands-over f w old new P Q (Err e) t follows = tt
-
--- what is found in the lists is found in the pieces, where they are known
-pub found-in-pieces : (count : ℕ) (o : Option (List (Option (List Entry)))) (p q total : ℕ) (keys : List Entry)
-    → (IsSome o → total_of (whole_of (lists_of count o)) ≤ max_total)
-    → (IsSome o → total ≡ total_of (whole_of (lists_of count o)))
-    → (IsSome o → keys ≡ heavy (whole_of (lists_of count o)) p q)
-    → IfSome o (λ pieces. AreKeysOfPieces pieces p q total keys)
-found-in-pieces count None p q total keys few sum found = tt
-found-in-pieces count (Some all) p q total keys few sum found =
-    (map items_or_too_many all, each_is_read all (few refl), few refl, sum refl, found refl)

@@ -1,9 +1,7 @@
 pub mod CondenseFacts
 pub mod ConfirmFacts
-pub mod FilePassFacts
 pub mod FilePieceFacts
+pub mod SourceFacts
 pub mod SourceReportFacts
-pub mod TableFacts
-pub mod WeighFacts
 pub mod SummaryFacts
 pub mod TopFacts

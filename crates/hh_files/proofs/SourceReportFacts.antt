@@ -1,49 +1,53 @@
 -- Reports of files that are read twice.
-use Rattle.std.proofs.Common.{◌≡◌, ◌≤◌, ◌+◌, ◌*◌, ◌∙◌, ℕ, Bool, List, Option, Some, None, Ok, Err, Result, Global, Vec, sym, ap}
+use Rattle.std.proofs.Common.{◌≡◌, ◌∙◌, ℕ, Bool, List, Option, Some, None, Ok, Err, Result, Global, Vec, ap, zip}
 use Rattle.std.specs.Prelude.{IfErr, IfOk}
 use Rattle.std.specs.Map.{keys_of}
 use Rattle.hh_stream.specs.Weights.{Entry, total_of}
-use Rattle.hh_summaries.specs.Counters.{IsCounters, IsHonest, SummaryView}
-use Rattle.hh_counters.specs.Counting.{Count, count_of}
-use Rattle.hh_counters.specs.Laws.{CandidatesSuffice, MisraGriesIsHonest}
-use Rattle.hh_summaries.specs.Report.{heavy}
+use Rattle.hh_summaries.specs.Report.{heavy, rows_above, weights_at}
+use Rattle.hh_tally.specs.Tallies.{AreBounds, TallyView, unsure_of}
 use Rattle.hh_counters.specs.declared.report.Heavy.{Heavy}
 use Rattle.hh_rows.specs.Printed.{printed_rows}
-use Rattle.hh_records.specs.Streams.{Known, Reading, ReadsAs}
+use Rattle.hh_records.specs.Streams.{Known, Reading}
 use Rattle.hh_rows.specs.Thresholds.{threshold_of}
 use Rattle.hh_rows.specs.declared.printed.RowOptions.{RowOptions}
-use Rattle.hh_commands.specs.Confirm.{confirmed_above}
-use Rattle.hh_commands.specs.Records.{IsCountOf}
 use Rattle.hh_records.specs.Refusals.{RecordsRefused}
 use Rattle.hh_reports.specs.Report.{AreOptions, ReportsKeys, StartRefused}
-use Rattle.hh_files.specs.ReportFiles.{FindsKeys, IfKnown, PrintsFileRows}
-use Rattle.hh_commands.specs.Summarise.{IsSummaryOf}
+use Rattle.hh_files.specs.FilePasses.{IfKnown, TalliesRecords, WeighsRecords}
+use Rattle.hh_files.specs.ReportFiles.{FindsKeys, PrintsFileRows}
 use Rattle.hh_rows.specs.declared.report_options.ReportOptions.{ReportOptions}
 use Rattle.hh_faults.specs.declared.error.ToolError.{ToolError}
 use Rattle.hh_faults.specs.declared.error.ToolError.TheVariants as tool
 
--- a summary's keys, counted in a second reading of the records that it is of, are the report where both readings are one
-pub counted_twice : MisraGriesIsHonest → CandidatesSuffice → (names : Bool) (o : Option (Option Reading)) (k p q : ℕ)
-    (s : SummaryView) (counts : Count) (total : ℕ) (rows : List Entry) → q ≤ p * (k + 1)
-    → IsSummaryOf k (record { names_columns = names; reading = o }) s
-    → ((ys : List Entry) × ReadsAs (record { names_columns = names; reading = o }) (Ok ys)
-    × IsCountOf (keys_of s.counters) ys counts)
-    → IsCounters s.counters
-    → ((xs : List Entry) → counts ≡ count_of (keys_of s.counters) xs → rows ≡ confirmed_above p q s xs)
-    → total ≡ s.total → FindsKeys (record { names_columns = names; reading = o }) p q total rows
-counted_twice honest suffice names None k p q s counts total rows enough made counted counters found is = tt
-counted_twice honest suffice names (Some r) k p q s counts total rows enough (xs, read, made) (ys, again, (weigh, counted))
-    counters found is =
-    let same : xs ≡ ys = cc in
-    let fair : IsHonest s.counters (total_of xs) xs k = rw made (honest xs k) in
-    let laws = suffice s.counters xs k p q in
-    let all : confirmed_above p q s xs ≡ heavy xs p q = sym (laws.0 counters) ∙ laws.1 fair enough in (
-      xs,
-      read,
-      is ∙ ap (λ (t : SummaryView). t.total) made,
-      found xs (counted ∙ ap (count_of (keys_of s.counters)) (sym same)) ∙ all,
-    )
+-- ---- keys by a tally
+module _ (names : Bool) (t : TallyView) (es : List Entry) where
+  -- what a tally and a count say of the weights of keys is what they weigh in the records
+  pub weights_found : (o : Option (Option Reading)) (counted ws : List ℕ)
+      → TalliesRecords t.room (record { names_columns = names; reading = o }) t
+      → WeighsRecords (record { names_columns = names; reading = o }) (keys_of (unsure_of t es)) counted
+      → ((xs : List Entry) → AreBounds t xs → counted ≡ weights_at (keys_of (unsure_of t es)) xs
+      → ws ≡ weights_at (keys_of es) xs)
+      → WeighsRecords (record { names_columns = names; reading = o }) (keys_of es) ws
+  weights_found None counted ws tallies weighs law = tt
+  weights_found (Some k) counted ws (xs, read, room, bounds) weighs law =
+      λ ys again. let same : xs ≡ ys = cc in law xs bounds (weighs xs read) ∙ ap (weights_at (keys_of es)) same
 
+  -- and those above p/q of the total are the heavy keys
+  pub keys_found : (o : Option (Option Reading)) (p q : ℕ) (ws : List ℕ) (rows : List Entry)
+      → TalliesRecords t.room (record { names_columns = names; reading = o }) t
+      → WeighsRecords (record { names_columns = names; reading = o }) (keys_of es) ws
+      → ((xs : List Entry) → AreBounds t xs
+      → rows_above p q (total_of xs) (zip (keys_of es) (weights_at (keys_of es) xs)) ≡ heavy xs p q)
+      → rows ≡ rows_above p q t.total (zip (keys_of es) ws)
+      → FindsKeys (record { names_columns = names; reading = o }) p q t.total rows
+  keys_found None p q ws rows tallies weighs law is = tt
+  keys_found (Some k) p q ws rows (xs, read, room, bounds) weighs law is = (
+    xs,
+    read,
+    bounds.counted,
+    is ∙ (λ i. rows_above p q (bounds.counted i) (zip (keys_of es) (weighs xs read i))) ∙ law xs bounds,
+  )
+
+-- ---- keys as a report
 -- records that are refused refuse a report with lawful options
 start_refused : (o : ReportOptions) (known : Known) (e : ToolError) → AreOptions o → RecordsRefused known e
     → StartRefused o known e

@@ -9,7 +9,7 @@ use Rattle.hh_tally.specs.declared.room.Room.{Room}
 use Rattle.hh_records.specs.Streams.{Known}
 use Rattle.hh_commands.specs.Records.{SavesStream}
 use Rattle.hh_files.specs.SummaryFiles.{SavesSummary, SummarisesRecords}
-use Rattle.hh_files.specs.TopFiles.{TalliesRecords}
+use Rattle.hh_files.specs.FilePasses.{TalliesRecords}
 
 -- a tally of records with room enough makes a summary of them
 pub tally_summarises : (k : ℕ) (room : Room) (known : Known) (t : TallyView) (s : SummaryView) → 2 * (k + 1) ≤ room.few

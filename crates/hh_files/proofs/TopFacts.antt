@@ -1,28 +1,20 @@
 -- The greatest keys of files that are read twice.
-use Rattle.std.proofs.Common.{◌≡◌, ◌∙◌, ℕ, ◌/◌, ◌≤◌, ⊎_elim, inl, inr, Bool, List, [], ◌∷◌, Option, Some, None, Result, Ok, Err, refl, sym, ap, subst, arith, fold, map}
-use Rattle.std.specs.Prelude.{IfErr, IfSome, IsSome, option_map, true}
-use Rattle.hh_stream.specs.Cuttings.{whole_of}
+use Rattle.std.proofs.Common.{◌≡◌, ◌∙◌, ℕ, ◌/◌, ⊎_elim, inl, inr, Bool, List, Option, Some, None, Result, Ok, Err, sym, ap, subst}
+use Rattle.std.specs.Prelude.{IfErr, true}
 use Rattle.hh_stream.specs.Ranges.{in_range}
-use Rattle.hh_stream.specs.Weights.{Bytes, Entry, max_total, total_of}
+use Rattle.hh_stream.specs.Weights.{Bytes, Entry, total_of}
 use Rattle.hh_summaries.specs.Report.{weights_at}
-use Rattle.hh_tally.specs.Laws.{BoundsFollow}
-use Rattle.hh_tally.specs.Tallies.{AreBounds, TallyView, empty_tally, tally_with}
+use Rattle.hh_tally.specs.Tallies.{AreBounds}
 use Rattle.hh_tally.specs.declared.room.Room.{Room}
 use Rattle.hh_top.specs.Top.{GreatestRefused, IsTopFault, IsUncertain, ShortlistView, stand_out}
-use Rattle.hh_pieces.specs.CutTexts.{AreReadByPieces}
-use Rattle.hh_pool.specs.Tallied.{BoundsSome}
-use Rattle.hh_records.specs.Layouts.{stream_with}
-use Rattle.hh_records.specs.Taking.{TakesItems}
-use Rattle.hh_records.specs.declared.layout.Layout.{Layout}
 use Rattle.hh_workers.specs.Workers.{max_workers}
 use Rattle.hh_records.specs.Refusals.{RecordsRefused}
 use Rattle.hh_records.specs.Streams.{Known, Reading}
 use Rattle.hh_rows.specs.Printed.{printed_rows}
 use Rattle.hh_rows.specs.declared.printed.RowOptions.{RowOptions}
-use Rattle.hh_files.specs.ReportFiles.{items_or_too_many, lists_of}
-use Rattle.hh_files.specs.TopFiles.{FindsTop, IsSharedRoom, ListRefused, PrintsTop, TalliesRecords, TellsTop, TopFilesRefused, TopRefused, WeighsRecords, counted_in, shared_room, whole_room}
+use Rattle.hh_files.specs.FilePasses.{TalliesRecords, WeighsRecords}
+use Rattle.hh_files.specs.TopFiles.{FindsTop, IsSharedRoom, ListRefused, PrintsTop, TellsTop, TopFilesRefused, TopRefused, counted_in, shared_room, whole_room}
 use Rattle.hh_files.specs.declared.topping.TopOptions.{TopOptions}
-use Rattle.hh_files.proofs.FilePieceFacts.{each_is_read}
 use Rattle.hh_faults.specs.declared.error.ToolError.{ToolError}
 use Rattle.hh_faults.specs.declared.error.ToolError.TheVariants as tool
 
@@ -80,39 +72,6 @@ module _ (names : Bool) (list : ShortlistView) (room : Room) (ks : List Bytes) (
       → IfErr r (ListRefused list (record { names_columns = names; reading = o }))
   greatest_refused (Ok a) o made weighs kind lossy h sure = tt
   greatest_refused (Err e) o made weighs kind lossy h sure = top_refused o e made weighs kind lossy h sure
-
--- ---- tallies of records
-module _ (room : Room) (t : TallyView) where
-  -- a tally that workers bring back is one of the records
-  pub pieces_tally : (layout : Layout) (names : Bool) (texts : Option (List (List ℕ))) (count : ℕ)
-      (o : Option (List (Option (List Entry))))
-      → IfSome texts (λ texts. (pieces : List (Option (List Entry))) × (o ≡ Some pieces)
-      × AreReadByPieces layout texts pieces)
-      → t.room ≡ room → BoundsSome t → (IsSome o → AreBounds t (whole_of (lists_of count o))) → t.total ≤ max_total
-      → TalliesRecords room (record { names_columns = names; reading = option_map (stream_with layout) texts }) t
-  pieces_tally layout names None count o read of (xs, bounds) whole few = (xs, tt, of, bounds)
-  pieces_tally layout names (Some texts) count o (pieces, known, read) of some whole few =
-      let lists = map items_or_too_many pieces in
-      let bounds = subst (λ (o : Option (List (Option (List Entry)))). AreBounds t (whole_of (lists_of count o))) known
-      (whole (rw known refl)) in
-      let bounded : total_of (whole_of lists) ≤ max_total = omega (arith, bounds.counted, few) in
-      (whole_of lists, read lists (each_is_read pieces bounded) bounded, of, bounds)
-
--- items leave the room as it is
-room-fold : (xs : List Entry) (t : TallyView) → (fold tally_with t xs).room ≡ t.room
-room-fold [] t = refl
-room-fold (e ∷ xs) t = room-fold xs (tally_with t e)
-
--- so is one that takes their items one by one
-pub taken_tally : BoundsFollow → (room : Room) (known : Known) (start t : TallyView) → start ≡ empty_tally room
-    → TakesItems tally_with known start t → TalliesRecords room known t
-taken_tally law room known start t is took =
-    let all : t ≡ fold tally_with (empty_tally room) took.xs = took.taken ∙ ap (λ s. fold tally_with s took.xs) is in (
-      took.xs,
-      took.reads,
-      ap (λ (t : TallyView). t.room) all ∙ room-fold took.xs (empty_tally room),
-      subst (λ (t : TallyView). AreBounds t took.xs) (sym all) (law.1 (empty_tally room) [] took.xs (law.0 room)),
-    )
 
 -- the rows of what was found are those of the greatest keys
 pub rows_of_top : (r : RowOptions) (n : ℕ) (names : Bool) (o : Option (Option Reading)) (total : ℕ) (keys : List Entry)

@@ -2,10 +2,9 @@
 -- of the keys.
 use Rattle.std.specs.Prelude.{◌≡◌, ℕ, ◌+◌, ◌-◌, ◌*◌, ◌/◌, ◌⊎◌, true, max, min, List, Ok}
 use Rattle.hh_stream.specs.Ranges.{in_range}
-use Rattle.hh_stream.specs.Weights.{Bytes, Entry, total_of}
+use Rattle.hh_stream.specs.Weights.{Entry, total_of}
 use Rattle.hh_summaries.specs.Counters.{max_k}
-use Rattle.hh_summaries.specs.Report.{weights_at}
-use Rattle.hh_tally.specs.Tallies.{AreBounds, TallyView, max_keys}
+use Rattle.hh_tally.specs.Tallies.{max_keys}
 use Rattle.hh_tally.specs.declared.room.Room.{Room}
 use Rattle.hh_top.specs.Top.{IsUncertain, ShortlistView, stand_out, top}
 use Rattle.hh_workers.specs.Workers.{max_workers}
@@ -13,15 +12,10 @@ use Rattle.hh_records.specs.Refusals.{RecordsRefused}
 use Rattle.hh_records.specs.Streams.{Known, ReadsAs}
 use Rattle.hh_rows.specs.Printed.{printed_rows}
 use Rattle.hh_rows.specs.declared.printed.RowOptions.{RowOptions}
-use Rattle.hh_files.specs.FilePasses.{BehindWorkers}
-use Rattle.hh_files.specs.ReportFiles.{IfKnown}
+use Rattle.hh_files.specs.FilePasses.{BehindWorkers, IfKnown}
 use Rattle.hh_files.specs.declared.topping.TopOptions.{TopOptions}
 use Rattle.hh_faults.specs.declared.error.ToolError.{ToolError}
 use Rattle.hh_faults.specs.declared.error.ToolError.TheVariants as tool
-
--- the records read as items, whose weights the tally with this room bounds
-abbrev pub TalliesRecords : Room → Known → TallyView → Type 0
-TalliesRecords room known t = (xs : List Entry) × ReadsAs known (Ok xs) × (t.room ≡ room) × AreBounds t xs
 
 -- a shortlist tells the n greatest keys, whatever those weigh that can be among them: nothing was lost, or n counters stand out
 abbrev pub TellsTop : ShortlistView → Type 0
@@ -55,10 +49,6 @@ abbrev pub IsSharedRoom : TopOptions → ShortlistView → Type 0
 IsSharedRoom options list =
     (TellsTop list × (list.tally.room ≡ shared_room (options.memory / options.workers)))
     ⊎ ((list.k ≡ counted_in options.memory) × (list.tally.room ≡ whole_room options.memory))
-
--- where the records' bytes are known, these are the weights of the keys ks in them
-abbrev pub WeighsRecords : Known → List Bytes → List ℕ → Type 0
-WeighsRecords known ks ws = IfKnown known ((xs : List Entry) → ReadsAs known (Ok xs) → ws ≡ weights_at ks xs)
 
 -- where the records' bytes are known, these are their total and their n greatest keys
 abbrev pub FindsTop : ℕ → Known → ℕ → List Entry → Type 0

@@ -1,56 +1,25 @@
-//! One pass over files, by workers.
+//! One pass over files, by workers: counts, weights and tallies.
 
-ghost use Rattle.std.specs.Prelude.{◌≡◌, ◌≤◌, All, true, length, IfOk, IfErr, IfSome, OnOk};
+ghost use Rattle.std.specs.Prelude.{◌≡◌, All, true, length, IfOk, IfErr, OnOk};
 ghost use Rattle.hh_stream.specs.Ranges.{in_range};
-ghost use Rattle.hh_summaries.specs.Counters.{max_k};
+ghost use Rattle.hh_tally.specs.Tallies.{IsRoom};
 ghost use Rattle.hh_workers.specs.Workers.{max_workers};
 ghost use Rattle.hh_pieces.specs.Sources.{sources_known};
 ghost use Rattle.hh_commands.specs.Records.{CountsRecords};
 ghost use Rattle.hh_records.specs.Refusals.{RecordsRefused};
+ghost use Rattle.hh_files.specs.FilePasses.{TalliesRecords, WeighsRecords};
 
-use crate::file_pieces::FilePieces;
-use hh_commands::count_records;
+use crate::by_workers::gather_by_workers;
 use hh_counters::{Candidates, Counts};
 use hh_faults::ToolError;
-use hh_pieces::{CutFiles, ReadAt, SourceRecords};
-use hh_pool::{PieceFault, count_pieces};
-use hh_reports::piece_count;
-use std::alloc::{AllocError, Global};
+use hh_pieces::{ReadAt, SourceRecords};
+use hh_tally::laws::tallies_bound_weights;
+use hh_tally::{Room, Tally};
+use std::alloc::Global;
 use std::sync::Wait;
 use std::thread::Threads;
 
-/// The counts of candidates in files, by workers, where each piece of the files can be read by
-/// itself. Without candidates there are none, since then no piece is read.
-fn counts_side_by_side<'c, T: Threads + Wait + Sync, S: ReadAt + Sync>(
-    rt: &T,
-    alloc: Global,
-    candidates: &'c Candidates,
-    workers: u64,
-    records: SourceRecords<'_, S>,
-) -> Result<Option<Counts<'c>>, AllocError>
-    requires few { length candidates.now ≤ max_k }
-    requires workers { in_range workers max_workers ≡ true }
-    ensures { IfOk result (λ counts. IfSome counts (CountsRecords
-        (sources_known S.bytes records.entry) candidates.now)) }
-{
-    if candidates.is_empty() {
-        return Ok(None);
-    }
-    let most = piece_count(workers, records.sources.len());
-    let Some(files) = CutFiles::new(alloc, records.layout, records.sources, most)? else {
-        return Ok(None);
-    };
-    let pieces = FilePieces::new(files);
-    match count_pieces(rt, alloc, &pieces, candidates, workers) {
-        Ok((weights, total)) => Ok(Counts::of_weights(candidates, weights, total)),
-        Err(PieceFault::Refused) => Ok(None),
-        Err(PieceFault::Memory) => Err(AllocError),
-    }
-}
-
-/// The counts of candidates in files. Workers read the files in pieces, once; where a piece can't
-/// be read by itself, one thread reads them from their starts. Where a file was changed meanwhile,
-/// the error is [`ToolError::ReadFault`].
+/// The counts of `candidates` in `records`.
 pub(crate) fn count_sources<'c, T: Threads + Wait + Sync, S: ReadAt + Sync>(
     rt: &T,
     alloc: Global,
@@ -58,17 +27,60 @@ pub(crate) fn count_sources<'c, T: Threads + Wait + Sync, S: ReadAt + Sync>(
     workers: u64,
     records: SourceRecords<'_, S>,
 ) -> Result<Counts<'c>, ToolError>
-    requires few { length candidates.now ≤ max_k }
     requires workers { in_range workers max_workers ≡ true }
     ensures counts { IfOk result
         (CountsRecords (sources_known S.bytes records.entry) candidates.now) }
     ensures still { OnOk result (All S.still records.entry.sources.now) }
     ensures refused { IfErr result (RecordsRefused (sources_known S.bytes records.entry)) }
 {
-    let counts = match counts_side_by_side(rt, alloc, candidates, workers, records)? {
-        Some(counts) => counts,
-        None => count_records(alloc, candidates, records)?,
-    };
-    records.check()?;
-    Ok(counts)
+    let start = Counts::new(alloc, candidates)?;
+    gather_by_workers(rt, alloc, start, workers, records)
+}
+
+/// The weights of `candidates` in `records`, whose tally has this `total`. The records are read
+/// only if there are candidates. If the count has another total, the error is
+/// [`ToolError::ReadFault`].
+pub(crate) fn weights_in<T: Threads + Wait + Sync, S: ReadAt + Sync>(
+    rt: &T,
+    alloc: Global,
+    total: u64,
+    candidates: &Candidates,
+    workers: u64,
+    records: SourceRecords<'_, S>,
+) -> Result<Vec<u64>, ToolError>
+    requires workers { in_range workers max_workers ≡ true }
+    requires still { All S.still records.sources.now }
+    ensures count { IfOk result (λ weights. length weights.items ≡ length candidates.now) }
+    ensures weights { IfOk result (λ weights. WeighsRecords
+        (sources_known S.bytes records.entry) candidates.now weights.items) }
+    ensures still { OnOk result (All S.still records.entry.sources.now) }
+    ensures refused { IfErr result (RecordsRefused (sources_known S.bytes records.entry)) }
+{
+    if candidates.is_empty() {
+        return Ok(Vec::new(alloc));
+    }
+    let counts = count_sources(rt, alloc, candidates, workers, records)?;
+    if counts.total() != total {
+        return Err(ToolError::ReadFault);
+    }
+    Ok(counts.into_weights())
+}
+
+/// The tally of `records`, with this `room` for each worker.
+pub(crate) fn tally_of_sources<T: Threads + Wait + Sync, S: ReadAt + Sync>(
+    rt: &T,
+    alloc: Global,
+    room: Room,
+    workers: u64,
+    records: SourceRecords<'_, S>,
+) -> Result<Tally, ToolError>
+    requires room { IsRoom room }
+    requires workers { in_range workers max_workers ≡ true }
+    ensures tally { IfOk result (TalliesRecords room (sources_known S.bytes records.entry)) }
+    ensures still { OnOk result (All S.still records.entry.sources.now) }
+    ensures refused { IfErr result (RecordsRefused (sources_known S.bytes records.entry)) }
+{
+    tallies_bound_weights();
+    let start = Tally::new(alloc, room, records.layout.hash)?;
+    gather_by_workers(rt, alloc, start, workers, records)
 }

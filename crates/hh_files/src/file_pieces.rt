@@ -4,8 +4,8 @@ ghost use Rattle.std.specs.Prelude.{◌≡◌, IsSome, length};
 ghost use Rattle.hh_files.specs.ReportFiles.{lists_of};
 
 use hh_pieces::{CutFiles, ReadAt};
-use hh_pool::{PieceFault, Pieces};
-use hh_stream::TakeItems;
+use hh_stream::{PieceFault, TakeItems};
+use hh_workers::Pieces;
 use std::alloc::Global;
 
 /// Files that are cut into pieces. Workers read each of them by itself, in each pass.
@@ -31,8 +31,6 @@ impl<'t, S: ReadAt> Pieces for FilePieces<'t, S> {
     ghost known = { λ p. IsSome p.files.pieces };
 
     // Of a piece that can't be read the items are too many for any pass.
-    ghost reads = { λ _ _. Unit };
-
     ghost refuses = { λ _ _. Unit };
 
     fn count(&self) -> usize {

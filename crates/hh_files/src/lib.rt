@@ -2,6 +2,7 @@
 //! and the passes that make a summary or a table, confirm a summary and condense records.
 #![tactic(auto)]
 
+mod by_workers;
 mod condensing;
 mod confirming;
 mod file_passes;
@@ -10,7 +11,6 @@ mod reporting;
 mod rooms;
 mod summarising;
 mod tabulating;
-mod tallying;
 mod topping;
 
 pub use condensing::condense_files;

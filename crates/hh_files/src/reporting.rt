@@ -1,133 +1,109 @@
 //! A report of files, of which no item is kept.
 
-ghost use Rattle.std.specs.Prelude.{◌≡◌, ◌<◌, ◌≤◌, ◌+◌, ◌*◌, All, List, true, IfOk, IfErr, IfSome, OnOk, Err};
+ghost use Rattle.std.specs.Prelude.{◌≡◌, ◌≤◌, ◌+◌, ◌*◌, ◌/◌, All, List, length, true};
+ghost use Rattle.std.specs.Prelude.{IfOk, IfErr, IfSome, OnOk, Err};
+ghost use Rattle.std.specs.List.Sorted.{IsStrictlySortedBy};
+ghost use Rattle.std.specs.Map.{keys_of};
 ghost use Rattle.hh_summaries.specs.Counters.{max_k};
 ghost use Rattle.hh_summaries.specs.Report.{IsShare};
-ghost use Rattle.hh_stream.specs.Cuttings.{max_pieces};
 ghost use Rattle.hh_stream.specs.Ranges.{in_range};
-ghost use Rattle.hh_stream.specs.Weights.{Entry, total_of};
+ghost use Rattle.hh_stream.specs.Weights.{Entry, key_cmp, total_of};
 ghost use Rattle.hh_pieces.specs.Sources.{sources_known};
 ghost use Rattle.hh_records.specs.Refusals.{RecordsRefused};
 ghost use Rattle.hh_workers.specs.Workers.{max_workers};
 ghost use Rattle.hh_reports.specs.Report.{AreOptions, ReportsKeys};
 ghost use Rattle.hh_reports.specs.Report.{StartRefused, bad_option};
-ghost use Rattle.hh_files.specs.ReportFiles.{AreKeysOfPieces, FindsKeys, IfKnown, PrintsFileRows};
+ghost use Rattle.hh_files.specs.FilePasses.{IfKnown, TalliesRecords, WeighsRecords};
+ghost use Rattle.hh_files.specs.ReportFiles.{FindsKeys, PrintsFileRows};
 
-use crate::file_pieces::FilePieces;
-use hh_commands::{count_records, rows_above, summary_by_monitoring};
-use hh_counters::laws::{candidates_suffice, misra_gries_is_honest};
+use crate::file_passes::{tally_of_sources, weights_in};
 use hh_counters::{Candidates, Heavy};
 use hh_faults::ToolError;
-use hh_pieces::{CutFiles, ReadAt, SourceRecords};
-use hh_pool::{Options, PieceFault, report_pieces};
-use hh_records::ReadRecords;
-use hh_reports::{Prepared, piece_count, prepare};
+use hh_pieces::{ReadAt, SourceRecords};
+use hh_reports::prepare;
 use hh_rows::{ReportOptions, RowOptions, printed_text};
-use hh_stream::KeyHash;
-use std::alloc::{AllocError, Global};
+use hh_stream::{Key, TakeItems};
+use hh_tally::{Room, Tally};
+use std::alloc::Global;
 use std::sync::Wait;
 use std::thread::Threads;
 
-/// The total of files in pieces and the heavy keys of their items, where each piece can be read by
-/// itself.
-fn keys_of_pieces<T: Threads + Wait + Sync, S: ReadAt + Sync>(
+/// Finds the weights of the keys of `contenders` in `records`, whose tally this is: those of which
+/// it isn't sure are counted, in another pass.
+fn weights_of<T: Threads + Wait + Sync, S: ReadAt + Sync>(
     rt: &T,
     alloc: Global,
-    files: CutFiles<'_, S>,
-    settings: &Options,
-    hash: KeyHash,
-) -> Result<Option<(u64, Vec<Heavy>)>, AllocError>
-    requires some { 0 < files.count }
-    requires few { files.count ≤ max_pieces }
-    ensures { IfOk result (λ keys. IfSome keys (λ keys. IfSome files.entry.pieces (λ pieces.
-        AreKeysOfPieces pieces settings.now.p settings.now.q keys.0 keys.1.items))) }
-{
-    let pieces = FilePieces::new(files);
-    match report_pieces(rt, alloc, &pieces, settings, hash) {
-        Ok(keys) => Ok(Some(keys)),
-        Err(PieceFault::Refused) => Ok(None),
-        Err(PieceFault::Memory) => Err(AllocError),
-    }
-}
-
-/// Finds the total of `records` and their heavy keys with `workers` workers. It gives `None` if the
-/// files can't be cut into pieces, a piece is refused or the total is too large: then one thread
-/// has to read them, which finds the error.
-fn keys_side_by_side<T: Threads + Wait + Sync, S: ReadAt + Sync>(
-    rt: &T,
-    alloc: Global,
-    records: SourceRecords<'_, S>,
+    tally: &Tally,
+    contenders: &[(Key, u64)],
     workers: u64,
-    settings: &Options,
-) -> Result<Option<(u64, Vec<Heavy>)>, AllocError>
+    records: SourceRecords<'_, S>,
+) -> Result<Vec<u64>, ToolError>
     requires workers { in_range workers max_workers ≡ true }
-    ensures { IfOk result (λ keys. IfSome keys (λ keys. FindsKeys
-        (sources_known S.bytes records.entry) settings.now.p settings.now.q keys.0 keys.1.items)) }
+    requires rising { IsStrictlySortedBy key_cmp (keys_of contenders.now) }
+    requires tally { TalliesRecords tally.now.room (sources_known S.bytes records) tally.now }
+    requires still { All S.still records.sources.now }
+    ensures count { IfOk result (λ weights. length weights.items ≡ length contenders.now) }
+    ensures weights { IfOk result (λ weights. WeighsRecords
+        (sources_known S.bytes records.entry) (keys_of contenders.now) weights.items) }
+    ensures still { OnOk result (All S.still records.entry.sources.now) }
+    ensures refused { IfErr result (RecordsRefused (sources_known S.bytes records.entry)) }
 {
-    let most = piece_count(workers, records.sources.len());
-    let Some(files) = CutFiles::new(alloc, records.layout, records.sources, most)? else {
-        return Ok(None);
-    };
-    keys_of_pieces(rt, alloc, files, settings, records.layout.hash)
+    let unsure = tally.unsure(alloc, contenders)?;
+    let candidates = Candidates::of_entries(alloc, &unsure, records.layout.hash)?;
+    let counted = weights_in(rt, alloc, tally.total(), &candidates, workers, records)?;
+    Ok(tally.weights(alloc, contenders, &counted)?)
 }
 
-/// Finds the total of `records` and the keys that weigh more than p/q of it, in one thread, which
-/// reads the records twice: for a summary with `k` counters, and to count its keys. If the two
-/// totals differ, the error is [`ToolError::ReadFault`].
-fn keys_in_turn<R: ReadRecords + Copy>(
+/// Finds the keys of `records`, whose tally this is, that weigh more than p/q of the total.
+fn heavy_by<T: Threads + Wait + Sync, S: ReadAt + Sync>(
+    rt: &T,
     alloc: Global,
-    records: R,
-    k: u64,
+    tally: &Tally,
     p: u64,
     q: u64,
-) -> Result<(u64, Vec<Heavy>), ToolError>
-    requires k { in_range k max_k ≡ true }
+    workers: u64,
+    records: SourceRecords<'_, S>,
+) -> Result<Vec<Heavy>, ToolError>
+    requires workers { in_range workers max_workers ≡ true }
     requires share { IsShare p q }
-    requires enough { q ≤ p * (k + 1) }
-    ensures keys { IfOk result (λ keys. FindsKeys (R.known records) p q keys.0 keys.1.items) }
-    ensures refused { IfErr result (λ fault. RecordsRefused (R.known records) fault) }
+    requires enough { q ≤ p * (tally.now.room.few / 2) }
+    requires tally { TalliesRecords tally.now.room (sources_known S.bytes records) tally.now }
+    requires still { All S.still records.sources.now }
+    ensures keys { IfOk result (λ keys. FindsKeys (sources_known S.bytes records.entry) p q
+        tally.now.total keys.items) }
+    ensures still { OnOk result (All S.still records.entry.sources.now) }
+    ensures refused { IfErr result (RecordsRefused (sources_known S.bytes records.entry)) }
 {
-    misra_gries_is_honest();
-    candidates_suffice();
-    let summary = summary_by_monitoring(alloc, k, records)?;
-    let candidates = Candidates::with_hasher(alloc, &summary, records.hash())?;
-    let counts = count_records(alloc, &candidates, records)?;
-    if counts.total() != summary.total() {
-        return Err(ToolError::ReadFault);
-    }
-    let keys = rows_above(&summary, &counts, p, q)?;
-    Ok((summary.total(), keys))
+    let contenders = tally.contenders(alloc, p, q)?;
+    let weights = weights_of(rt, alloc, tally, &contenders, workers, records)?;
+    let candidates = Candidates::of_entries(alloc, &contenders, records.layout.hash)?;
+    Ok(candidates.select(&weights, tally.total(), p, q)?)
 }
 
-/// Finds the total of `records` and their heavy keys. Workers read the files in pieces; if a piece
-/// can't be read by itself, one thread reads all files instead. If a file was changed meanwhile,
-/// the error is [`ToolError::ReadFault`].
+/// Finds the total of `records` and the keys that weigh more than p/q of it, by a tally with room
+/// for `k` counters.
 fn keys_of_sources<T: Threads + Wait + Sync, S: ReadAt + Sync>(
     rt: &T,
     alloc: Global,
     records: SourceRecords<'_, S>,
     k: u64,
     workers: u64,
-    prepared: &Prepared,
+    p: u64,
+    q: u64,
 ) -> Result<(u64, Vec<Heavy>), ToolError>
     requires k { in_range k max_k ≡ true }
     requires workers { in_range workers max_workers ≡ true }
-    requires share { IsShare prepared.now.p prepared.now.q }
-    requires enough { prepared.now.q ≤ prepared.now.p * (k + 1) }
-    requires p { prepared.now.settings.p ≡ prepared.now.p }
-    requires q { prepared.now.settings.q ≡ prepared.now.q }
-    ensures keys { IfOk result (λ keys. FindsKeys (sources_known S.bytes records.entry)
-        prepared.now.p prepared.now.q keys.0 keys.1.items) }
+    requires share { IsShare p q }
+    requires enough { q ≤ p * (k + 1) }
+    ensures keys { IfOk result (λ keys. FindsKeys (sources_known S.bytes records.entry) p q
+        keys.0 keys.1.items) }
     ensures still { OnOk result (All S.still records.entry.sources.now) }
     ensures refused { IfErr result (RecordsRefused (sources_known S.bytes records.entry)) }
 {
-    let Prepared { settings, p, q, .. } = prepared;
-    let keys = match keys_side_by_side(rt, alloc, records, workers, settings)? {
-        Some(keys) => keys,
-        None => keys_in_turn(alloc, records, k, *p, *q)?,
-    };
-    records.check()?;
-    Ok(keys)
+    let room = Room::for_counters(k);
+    let tally = tally_of_sources(rt, alloc, room, workers, records)?;
+    let keys = heavy_by(rt, alloc, &tally, p, q, workers, records)?;
+    Ok((tally.total(), keys))
 }
 
 /// Tests `options`, and then finds the total of `records` and the keys that their report has.
@@ -147,7 +123,8 @@ fn reported_of_files<T: Threads + Wait + Sync, S: ReadAt + Sync>(
 {
     match prepare(alloc, options, records.layout.hash) {
         Ok(prepared) => {
-            keys_of_sources(rt, alloc, records, options.k, options.workers, &prepared)
+            let (p, q) = (prepared.p, prepared.q);
+            keys_of_sources(rt, alloc, records, options.k, options.workers, p, q)
         }
         Err(fault) => Err(fault),
     }
@@ -155,15 +132,16 @@ fn reported_of_files<T: Threads + Wait + Sync, S: ReadAt + Sync>(
 
 /// Makes the rows of the report of files of any size, as [`report_rows`](hh_reports::report_rows)
 /// does, or of other bytes that can be read at any place, such as those of a pipe that were kept.
-/// No item is kept: workers read the files in pieces, through a buffer each, and tally their items.
-/// If the keys are few, one pass is enough; else a second one weighs the keys that can be heavy. If
-/// a piece can't be read by itself, one thread reads all files, twice, so that an error has the
+/// No item is kept: workers read the files in pieces, through a buffer each, and tally their items
+/// (Misra and Gries 1982, in batches as Anderson et al. 2017). If the keys are few, one pass is
+/// enough; else a second one counts the keys that can be heavy, but of whose weight the tally isn't
+/// sure. If a piece can't be read by itself, one thread reads all files, so that an error has the
 /// number of its record.
 ///
 /// Where the bytes of all files are known, the report is that of their records, one file after the
 /// other. Where a file was changed while it was read, the error is [`ToolError::ReadFault`]; one
-/// that has only grown wasn't ([`GrowingFile`](hh_pieces::GrowingFile)). Where the total weights of
-/// two readings differ all the same, one thread reads the files anew, and they are compared again.
+/// that has only grown wasn't ([`GrowingFile`](hh_pieces::GrowingFile)). So it is where the total
+/// weights of two readings differ all the same.
 pub fn report_files<T: Threads + Wait + Sync, F: ReadAt + Sync>(
     rt: &T,
     alloc: Global,

@@ -11,16 +11,16 @@ ghost use Rattle.hh_commands.specs.Records.{SavesStream};
 ghost use Rattle.hh_files.specs.SummaryFiles.{SavesSummary, SummarisesRecords};
 ghost use Rattle.hh_files.specs.SummaryFiles.{bad_summary_of_files};
 
-use crate::tallying::tally_of_sources;
+use crate::file_passes::tally_of_sources;
 use hh_commands::{Method, summary_bytes_from};
 use hh_counters::laws::misra_gries_is_honest;
 use hh_counters::{MAX_K, Summary};
 use hh_faults::ToolError;
 use hh_pieces::{ReadAt, SourceRecords};
-use hh_pool::MAX_WORKERS;
 use hh_saved::{Saved, write};
 use hh_stream::in_range;
 use hh_tally::Room;
+use hh_workers::MAX_WORKERS;
 use std::alloc::Global;
 use std::sync::Wait;
 use std::thread::Threads;

@@ -1,27 +1,26 @@
 //! The greatest keys of files, which workers read in pieces, up to three times.
 
-ghost use Rattle.std.specs.Prelude.{◌≡◌, ◌+◌, ◌*◌, ◌≤◌, All, length, true, IfOk, IfErr, OnOk};
+ghost use Rattle.std.specs.Prelude.{◌≡◌, ◌+◌, ◌*◌, ◌≤◌, All, true, IfOk, IfErr, OnOk};
 ghost use Rattle.hh_stream.specs.Ranges.{in_range};
 ghost use Rattle.hh_summaries.specs.Counters.{max_k};
 ghost use Rattle.hh_tally.specs.Tallies.{IsRoom};
 ghost use Rattle.hh_workers.specs.Workers.{max_workers};
 ghost use Rattle.hh_pieces.specs.Sources.{sources_known};
 ghost use Rattle.hh_records.specs.Refusals.{RecordsRefused};
+ghost use Rattle.hh_files.specs.FilePasses.{TalliesRecords};
 ghost use Rattle.hh_files.specs.TopFiles.{FindsTop, IsSharedRoom, ListRefused, PrintsTop};
-ghost use Rattle.hh_files.specs.TopFiles.{TalliesRecords, TopFilesRefused, TopRefused};
-ghost use Rattle.hh_files.specs.TopFiles.{WeighsRecords, counted_in};
+ghost use Rattle.hh_files.specs.TopFiles.{TopFilesRefused, TopRefused, counted_in};
 
-use crate::file_passes::count_sources;
+use crate::file_passes::{tally_of_sources, weights_in};
 use crate::rooms::{counted_in, shared_room, whole_room};
-use crate::tallying::tally_of_sources;
-use hh_counters::{Candidates, Heavy};
+use hh_counters::Heavy;
 use hh_faults::ToolError;
 use hh_pieces::{ReadAt, SourceRecords};
-use hh_pool::MAX_WORKERS;
 use hh_rows::{RowOptions, printed_text};
 use hh_stream::{TakeItems, in_range};
 use hh_tally::Room;
 use hh_top::Shortlist;
+use hh_workers::MAX_WORKERS;
 use std::alloc::Global;
 use std::sync::Wait;
 use std::thread::Threads;
@@ -98,36 +97,6 @@ fn shortlist_of<T: Threads + Wait + Sync, S: ReadAt + Sync>(
         return Err(ToolError::ReadFault);
     }
     Ok(grown)
-}
-
-/// The weights of `candidates` in `records`, whose tally has this `total`. The records are read
-/// only if there are candidates. If the count has another total, the error is
-/// [`ToolError::ReadFault`].
-fn weights_in<T: Threads + Wait + Sync, S: ReadAt + Sync>(
-    rt: &T,
-    alloc: Global,
-    total: u64,
-    candidates: &Candidates,
-    workers: u64,
-    records: SourceRecords<'_, S>,
-) -> Result<Vec<u64>, ToolError>
-    requires few { length candidates.now ≤ max_k }
-    requires workers { in_range workers max_workers ≡ true }
-    requires still { All S.still records.sources.now }
-    ensures count { IfOk result (λ weights. length weights.items ≡ length candidates.now) }
-    ensures weights { IfOk result (λ weights. WeighsRecords
-        (sources_known S.bytes records.entry) candidates.now weights.items) }
-    ensures still { OnOk result (All S.still records.entry.sources.now) }
-    ensures refused { IfErr result (RecordsRefused (sources_known S.bytes records.entry)) }
-{
-    if candidates.is_empty() {
-        return Ok(Vec::new(alloc));
-    }
-    let counts = count_sources(rt, alloc, candidates, workers, records)?;
-    if counts.total() != total {
-        return Err(ToolError::ReadFault);
-    }
-    Ok(counts.into_weights())
 }
 
 /// Finds the greatest keys of `records`, of whose tally this is the shortlist: by its counters

@@ -1,7 +1,8 @@
 -- What the closed sums are, and that the merged summary can be made.
-use Rattle.std.proofs.Common.{◌≡◌, ℕ, ◌+◌, ◌*◌, ◌%◌, ◌^◌, ◌<◌, ◌≤◌, List, [], ◌∷◌, length, get_or, map, refl, sym, ap, ◌∙◌, subst, arith, All}
+use Rattle.std.proofs.Common.{◌≡◌, ℕ, ◌+◌, ◌*◌, ◌%◌, ◌^◌, ◌<◌, ◌≤◌, Bool, cond, true, false, List, [], ◌∷◌, length, get_or, map, refl, sym, ap, ◌∙◌, subst, arith, All}
 use Rattle.std.specs.List.{range_with_len}
 use Rattle.std.proofs.lemmas.List.{get_or-map, length-map}
+use Rattle.std.proofs.lemmas.List.Sums.{sum_by-le-sum_by}
 use Rattle.std.proofs.lemmas.List.FromFn.{fill_by_all}
 use Rattle.std.proofs.lemmas.List.Elements.{All-map}
 use Rattle.std.proofs.lemmas.Grind.{same_number_lists}
@@ -11,16 +12,29 @@ use Rattle.hh_stream.specs.Weights.{Bytes, Entry, at_key, weight_of, total_of, m
 use Rattle.hh_stream.specs.Cuttings.{whole_of}
 use Rattle.hh_summaries.specs.Counters.{SummaryView, sketch_of}
 use Rattle.hh_summaries.specs.Report.{weights_at}
+use Rattle.hh_countmin.specs.Family.{Coefficients}
 use Rattle.hh_countmin.specs.Table.{at_cell, cell_sum, table_of}
 use Rattle.hh_countmin.specs.Laws.{CellsAreCellSums}
 use Rattle.hh_shared.specs.Tally.{cell_total, sum_at, IsDistinctBelow, HasAllBelow}
 use Rattle.hh_shared.specs.Seats.{Holding}
 use Rattle.hh_pool.specs.Settings.{Settings}
-use Rattle.hh_pool.specs.Passes.{items_at, summaries_at, AreFirstPasses, AreSecondPasses, AreSummaries, HaveTaken}
+use Rattle.hh_pool.specs.Passes.{summaries_at, AreFirstPasses, AreSecondPasses, AreSummaries, HaveTaken}
 use Rattle.hh_workers.specs.Workers.{HasEach}
-use Rattle.hh_workers.specs.Pieces.{piece_of}
-use Rattle.hh_pool.proofs.PieceFacts.{sum_by-all_items, weight_of-le, cell_sum-le}
+use Rattle.hh_workers.specs.Pieces.{items_at, piece_of}
+use Rattle.hh_workers.proofs.PieceSums.{sum_by-all_items}
 use Rattle.hh_pool.proofs.Tried.{weight_at_number}
+
+part : (b : Bool) (n : ℕ) → cond b n 0 ≤ n
+part true n = omega arith
+part false n = omega arith
+
+-- no key weighs more than all
+weight_of-le : (x : Bytes) (xs : List Entry) → weight_of x xs ≤ total_of xs
+weight_of-le x xs = sum_by-le-sum_by (at_key x) (λ (e : Entry). e.1) xs (λ e. part _ e.1)
+
+-- nor does a cell
+cell_sum-le : (family : Coefficients) (width r c : ℕ) (xs : List Entry) → cell_sum family width r c xs ≤ total_of xs
+cell_sum-le family width r c xs = sum_by-le-sum_by (at_cell family width r c) (λ (e : Entry). e.1) xs (λ e. part _ e.1)
 
 exact : (n sum : ℕ) → sum ≡ n → n ≤ max_total → sum % 2 ^ 64 ≡ n
 exact n sum e low = omega arith
@@ -45,14 +59,14 @@ closed_cells law pieces xs settings seat kept values whole low p distinct all lo
     (omega (arith, cell_sum-le family width r c xs)))
 
 -- so the closed sums, with the total of what was taken, are the parts of the whole table
-pub closed_table : CellsAreCellSums → (reads : ℕ → Type 0) (pieces : List (List Entry)) (settings : Settings)
+pub closed_table : CellsAreCellSums → (pieces : List (List Entry)) (settings : Settings)
     (seat : Holding) (kept : List (ℕ × SummaryView)) (weight : ℕ) (values : List ℕ)
-    → AreFirstPasses pieces settings seat kept × HaveTaken reads pieces seat.claims weight
+    → AreFirstPasses pieces settings seat kept × HaveTaken pieces seat.claims weight
     → HasEach (length pieces) seat.claims → length values ≡ length settings.family.rows * settings.width
     → ((cell : ℕ) → cell < length settings.family.rows * settings.width → get_or values cell 0 ≡ sum_at seat.adds cell)
     → (weight ≡ total_of (whole_of pieces))
     × (values ≡ (table_of settings.family settings.width (whole_of pieces)).cells)
-closed_table law reads pieces settings seat kept weight values (p, taken) each long sums =
+closed_table law pieces settings seat kept weight values (p, taken) each long sums =
     let total : weight ≡ total_of (whole_of pieces) =
     taken.total ∙ sum_by-all_items (λ (e : Entry). e.1) pieces seat.claims each.distinct each.all in (
       total,

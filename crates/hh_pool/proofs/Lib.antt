@@ -1,12 +1,9 @@
 pub mod MergeFacts
 pub mod ValueFacts
-pub mod PieceFacts
 pub mod Taken
 pub mod Tried
-pub mod TableFacts
 pub mod Closed
 pub mod Held
 pub mod Merged
 pub mod Ordered
 pub mod TreeLaws
-pub mod TallyFacts

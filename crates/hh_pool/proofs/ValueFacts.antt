@@ -14,7 +14,7 @@ use Rattle.hh_workers.specs.Trees.{IsMergeTree, MergeTree, Piece, Merge, leaves}
 use Rattle.hh_shared.specs.Tally.{times}
 use Rattle.hh_shared.proofs.Tallies.{times-append, times-elsewhere, times-here}
 use Rattle.hh_workers.proofs.LeafFacts.{at-left, at-right, distinct-leaves, sum-leaves}
-use Rattle.hh_pool.proofs.PieceFacts.{sum_by-flat_map}
+use Rattle.hh_workers.proofs.PieceSums.{sum_by-flat_map}
 
 -- a merge that went well had two results with one k
 both-ok : (a b : Result SummaryView SummaryFault) (u : SummaryView) → merge_both a b ≡ Ok u

@@ -2,7 +2,5 @@ pub mod Settings
 pub mod Trees
 pub mod Passes
 pub mod Progress
-pub mod Tabulated
 pub mod Outcomes
 pub mod Laws
-pub mod Tallied

@@ -1,29 +1,14 @@
 -- What the workers of a pass bring back.
-use Rattle.std.specs.Prelude.{◌≡◌, ◌⊎◌, ℕ, ◌+◌, ◌*◌, ◌<◌, ◌≤◌, All, List, length, map, slice_get, Some}
-use Rattle.std.specs.List.{flat_map}
+use Rattle.std.specs.Prelude.{◌≡◌, ℕ, ◌+◌, ◌*◌, ◌<◌, ◌≤◌, All, List, length, map, slice_get, Some}
 use Rattle.std.specs.List.Sorted.{IsStrictlyIncreasing}
 use Rattle.hh_stream.specs.Weights.{Bytes, Entry, max_total, total_of, weight_of}
-use Rattle.hh_stream.specs.Cuttings.{whole_of}
 use Rattle.hh_summaries.specs.Counters.{SummaryView, sketch_of}
 use Rattle.hh_countmin.specs.Table.{cell_sum}
-use Rattle.hh_shared.specs.Tally.{HasAllBelow, IsDistinctBelow, times, cell_total}
+use Rattle.hh_shared.specs.Tally.{HasAllBelow, IsDistinctBelow, cell_total}
 use Rattle.hh_shared.specs.Seats.{Holding}
 use Rattle.hh_pool.specs.Settings.{Settings}
-use Rattle.hh_workers.specs.Pieces.{piece_of}
+use Rattle.hh_workers.specs.Pieces.{items_at, piece_of}
 use Rattle.hh_workers.specs.Workers.{HasTried}
-
--- the items of the pieces with these numbers, one piece after the other
-abbrev pub items_at : List (List Entry) → List ℕ → List Entry
-items_at pieces numbers = flat_map (piece_of pieces) numbers
-
--- each of the pieces could be read
-abbrev pub AreRead : (ℕ → Type 0) → List (List Entry) → Type 0
-AreRead reads pieces = (i : ℕ) → i < length pieces → reads i
-
--- what is known where pieces were refused: one of them was, or the weights of all add up to more than a total may be
-abbrev pub MayRefuse : (ℕ → Type 0) → List (List Entry) → Type 0
-MayRefuse refuses pieces =
-    ((i : ℕ) × (i < length pieces) × refuses i) ⊎ (max_total < total_of (whole_of pieces))
 
 -- the summaries of the pieces with these numbers, each with its number
 abbrev pub summaries_at : ℕ → List (List Entry) → List ℕ → List (ℕ × SummaryView)
@@ -46,11 +31,9 @@ pub record AreFirstPasses (pieces : List (List Entry)) (settings : Settings) (se
       ≡ cell_sum settings.family settings.width r c (items_at pieces seat.claims)
   pub summaries : kept ≡ summaries_at settings.k pieces seat.claims
 
--- What workers have taken who claimed the pieces with these numbers: each of them once, each could be read, and their
--- items have this total
-pub record HaveTaken (reads : ℕ → Type 0) (pieces : List (List Entry)) (claims : List ℕ) (weight : ℕ) : Type 0 where
+-- What workers have taken who claimed the pieces with these numbers: each of them once, and their items have this total
+pub record HaveTaken (pieces : List (List Entry)) (claims : List ℕ) (weight : ℕ) : Type 0 where
   pub distinct : IsDistinctBelow (length pieces) claims
-  pub read : (i : ℕ) → 0 < times i claims → reads i
   pub total : weight ≡ total_of (items_at pieces claims)
   pub bounded : weight ≤ max_total
 

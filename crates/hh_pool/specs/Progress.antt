@@ -6,10 +6,10 @@ use Rattle.hh_counters.specs.Counting.{Count}
 use Rattle.hh_summaries.specs.Report.{weights_at}
 use Rattle.hh_countmin.specs.Family.{Coefficients}
 use Rattle.hh_countmin.specs.Table.{TableView, grid_with, table_of}
-use Rattle.hh_shared.specs.Tally.{times}
 use Rattle.hh_counters.specs.SpaceSaving.{monitor_with}
 use Rattle.hh_pool.specs.Settings.{Settings}
-use Rattle.hh_pool.specs.Passes.{items_at, summaries_at}
+use Rattle.hh_pool.specs.Passes.{summaries_at}
+use Rattle.hh_workers.specs.Pieces.{items_at}
 use Rattle.hh_pool.specs.declared.first.Sketches.{Sketches}
 
 -- an item more, in both sketches
@@ -20,9 +20,8 @@ sketches_with sketches item = record {
 }
 
 -- what the first pass makes of the pieces with these numbers, one after the other
-pub record IsFirstMade (reads : ℕ → Type 0) (pieces : List (List Entry)) (settings : Settings) (numbers : List ℕ)
+pub record IsFirstMade (pieces : List (List Entry)) (settings : Settings) (numbers : List ℕ)
     (kept : List (ℕ × SummaryView)) (grid : TableView) : Type 0 where
-  pub read : (i : ℕ) → 0 < times i numbers → reads i
   pub summaries : kept ≡ summaries_at settings.k pieces numbers
   pub table : grid ≡ table_of settings.family settings.width (items_at pieces numbers)
 

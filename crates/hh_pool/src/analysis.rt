@@ -8,10 +8,10 @@ ghost use Rattle.hh_stream.specs.Ranges.{in_range};
 ghost use Rattle.hh_summaries.specs.Counters.{max_k, IsHonest, sketch_of};
 ghost use Rattle.hh_summaries.specs.Report.{weights_at, heavy};
 ghost use Rattle.hh_countmin.specs.Table.{table_of};
+ghost use Rattle.hh_workers.specs.Pieces.{MayRefuse};
 ghost use Rattle.hh_workers.specs.Workers.{max_workers};
 ghost use Rattle.hh_workers.specs.Trees.{IsMergeTree, leaves};
 ghost use Rattle.hh_pool.specs.Outcomes.{IsMerged};
-ghost use Rattle.hh_pool.specs.Passes.{MayRefuse};
 
 use crate::first::FirstPass;
 use crate::merging::merge_by;
@@ -88,7 +88,7 @@ fn table_of_cells(options: &Options, total: u64, cells: Vec<u64>) -> Result<Tabl
 
 /// The second pass: the weight of each candidate in all items, and the total of all items where
 /// there are candidates.
-pub(crate) fn weigh<R: Threads + Wait + Sync, P: Pieces + Sync, G: Gate + Sync>(
+fn weigh<R: Threads + Wait + Sync, P: Pieces + Sync, G: Gate + Sync>(
     rt: &R,
     alloc: Global,
     pieces: &P,
@@ -157,11 +157,7 @@ fn merge_pieces<R: Threads + Wait + Sync, P: Pieces + Sync, G: Gate + Sync>(
 
 /// Refuses another total than the first pass had, where anything was counted. Only pieces that
 /// changed between the passes come to this.
-pub(crate) fn check_totals(
-    candidates: &Candidates,
-    counted: u64,
-    total: u64,
-) -> Result<(), PieceFault>
+fn check_totals(candidates: &Candidates, counted: u64, total: u64) -> Result<(), PieceFault>
     ensures same { OnOk result (0 < length candidates.now → counted ≡ total) }
     ensures differs { IsErr result → (0 < length candidates.now) × (counted ≢ total) }
     ensures refused { IsErr result → result ≡ Err PieceFault.Refused }

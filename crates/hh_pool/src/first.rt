@@ -1,7 +1,7 @@
 //! The first pass: each piece is summarised, and its items are added to the cells of one table.
 
 ghost use Rattle.std.specs.Prelude.{◌≡◌, ◌+◌, ◌*◌, ◌<◌, ◌≤◌, ◌++◌, ◌⊎◌};
-ghost use Rattle.std.specs.Prelude.{[], ℕ, List, length, map, max, sum, true, IfOk, IsErr, IsErrOf, OnOk};
+ghost use Rattle.std.specs.Prelude.{[], ℕ, List, length, map, max, sum, true, IfOk, IsErr, IsErrOf};
 ghost use Rattle.hh_stream.specs.Weights.{max_total, Entry, total_of};
 ghost use Rattle.hh_stream.specs.Cuttings.{pieces_of, whole_of};
 ghost use Rattle.hh_stream.specs.Ranges.{in_range};
@@ -10,8 +10,8 @@ ghost use Rattle.hh_counters.specs.SpaceSaving.{monitor_of, translation_of};
 ghost use Rattle.hh_countmin.specs.Family.{Coefficients};
 ghost use Rattle.hh_countmin.specs.Table.{table_of};
 ghost use Rattle.hh_shared.specs.Seats.{fresh};
-ghost use Rattle.hh_pool.specs.Passes.{AreSummaries, IsFirstPass, MayRefuse};
-ghost use Rattle.hh_workers.specs.Pieces.{piece_of};
+ghost use Rattle.hh_pool.specs.Passes.{AreSummaries, IsFirstPass};
+ghost use Rattle.hh_workers.specs.Pieces.{MayRefuse, piece_of};
 ghost use Rattle.hh_pool.specs.Progress.{IsSummarised, sketches_with};
 
 use crate::options::Options;
@@ -103,7 +103,6 @@ pub fn first_pass_sequentially<G: Gate>(
 pub(crate) fn empty_table(alloc: Global, options: &Options) -> Result<Table, AllocError>
     ensures { IfOk result (λ table. table ≡ table_of options.now.family options.now.width []) }
 {
-    tables_follow_items();
     let family = options.family().copy()?;
     Table::empty(alloc, family, options.width())
 }
@@ -190,8 +189,6 @@ impl<'a, P: Pieces, G: Gate> FirstPass<'a, P, G> {
         ensures summarised { let pieces = self.now.pieces.now in IfOk result (λ r.
             IsSummarised (λ xs. P.known pieces → xs ≡ piece_of (P.pieces pieces) piece)
             self.now.options.now.k r.0 table r.1) }
-        ensures reads { let pieces = self.now.pieces.now in
-            OnOk result (P.known pieces → P.reads pieces piece) }
         ensures refused { let pieces = self.now.pieces.now in
             IsErrOf result PieceFault.Refused → P.known pieces → P.refuses pieces piece
             ⊎ (max_total < table.total + total_of (piece_of (P.pieces pieces) piece)) }
@@ -250,8 +247,9 @@ impl<'a, P: Pieces, G: Gate> Pass for FirstPass<'a, P, G> {
     type Partial = Summarised;
 
     ghost use Rattle.std.specs.Prelude.{◌*◌, length};
-    ghost use Rattle.hh_pool.specs.Passes.{AreFirstPasses, HaveTaken, MayRefuse};
+    ghost use Rattle.hh_pool.specs.Passes.{AreFirstPasses, HaveTaken};
     ghost use Rattle.hh_pool.specs.Progress.{HoldsItems, IsFirstMade};
+    ghost use Rattle.hh_workers.specs.Pieces.{MayRefuse};
 
     ghost pieces = { λ p. length (P.pieces p.pieces.now) };
 
@@ -259,13 +257,13 @@ impl<'a, P: Pieces, G: Gate> Pass for FirstPass<'a, P, G> {
 
     ghost is_made = { λ p numbers made. let pieces = p.pieces.now in
         HoldsItems p.options.now numbers made.summaries.items made.table × (P.known pieces
-        → IsFirstMade (P.reads pieces) (P.pieces pieces) p.options.now numbers
+        → IsFirstMade (P.pieces pieces) p.options.now numbers
         made.summaries.items made.table) };
 
     ghost all_done = { λ p seat kept. let pieces = p.pieces.now in
         (length kept.summaries.items ≡ length seat.claims) × (P.known pieces
         → AreFirstPasses (P.pieces pieces) p.options.now seat kept.summaries.items
-        × HaveTaken (P.reads pieces) (P.pieces pieces) seat.claims kept.total) };
+        × HaveTaken (P.pieces pieces) seat.claims kept.total) };
 
     ghost may_refuse = { λ p. let pieces = p.pieces.now in P.known pieces
         → MayRefuse (P.refuses pieces) (P.pieces pieces) };

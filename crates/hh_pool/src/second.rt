@@ -6,8 +6,8 @@ ghost use Rattle.hh_stream.specs.Weights.{Entry, max_total, total_of};
 ghost use Rattle.hh_stream.specs.Cuttings.{pieces_of, whole_of};
 ghost use Rattle.hh_summaries.specs.Report.{weights_at};
 ghost use Rattle.hh_shared.specs.Seats.{fresh};
-ghost use Rattle.hh_pool.specs.Passes.{AreSecondPasses, IsSecondPass, MayRefuse};
-ghost use Rattle.hh_workers.specs.Pieces.{piece_of};
+ghost use Rattle.hh_pool.specs.Passes.{AreSecondPasses, IsSecondPass};
+ghost use Rattle.hh_workers.specs.Pieces.{MayRefuse, piece_of};
 ghost use Rattle.hh_pool.specs.Progress.{AreCounted, IsCountedOn};
 
 use crate::first::sum_of_totals;
@@ -138,8 +138,9 @@ impl<'a, 'c, P: Pieces, G: Gate> Pass for SecondPass<'a, 'c, P, G> {
 
     ghost use Rattle.std.specs.Prelude.{length};
     ghost use Rattle.hh_stream.specs.Weights.{max_total};
-    ghost use Rattle.hh_pool.specs.Passes.{AreSecondPasses, HaveCounted, MayRefuse, items_at};
+    ghost use Rattle.hh_pool.specs.Passes.{AreSecondPasses, HaveCounted};
     ghost use Rattle.hh_pool.specs.Progress.{AreCounted, HasCounted};
+    ghost use Rattle.hh_workers.specs.Pieces.{MayRefuse, items_at};
 
     ghost pieces = { λ p. length (P.pieces p.pieces.now) };
 

@@ -22,4 +22,4 @@ pub use layout::{
 };
 pub use layout_words::{LayoutWords, layout_of};
 pub use records::{Room, number_in, read_rows, take_parts, take_row};
-pub use texts::ReadRecords;
+pub use texts::{ReadRecords, gather_in_turn};

@@ -1,13 +1,14 @@
 //! Records that are to be read, wherever they come from.
 
-ghost use Rattle.std.specs.Prelude.{◌≡◌, IfOk, IfErr};
+ghost use Rattle.std.specs.Prelude.{◌≡◌, [], IfOk, IfErr};
 ghost use Rattle.hh_stream.specs.declared.key_hash.KeyHash.{KeyHash};
 ghost use Rattle.hh_records.specs.Layouts.{TextsRefused};
+ghost use Rattle.hh_records.specs.Refusals.{RecordsRefused};
 ghost use Rattle.hh_records.specs.Streams.{Known};
-ghost use Rattle.hh_records.specs.Taking.{TakesItems};
+ghost use Rattle.hh_records.specs.Taking.{GathersRecords, TakesItems};
 
-use hh_faults::TextError;
-use hh_stream::{KeyHash, TakeItems};
+use hh_faults::{TextError, ToolError};
+use hh_stream::{KeyHash, Sketch, TakeItems};
 use std::alloc::Global;
 
 /// Records that are to be read.
@@ -27,4 +28,19 @@ pub trait ReadRecords: Drop {
         requires none { T.weight_taken taker ≡ 0 }
         ensures items { IfOk result (λ taken. TakesItems T.with_item (known self) taker taken) }
         ensures refused { IfErr result (λ error. TextsRefused (known self) error) };
+}
+
+/// Gathers the items of `records` into `start`, a sketch of none, one by one, and keeps no record.
+/// An error is the one that reading the records met, or [`ToolError::Memory`].
+pub fn gather_in_turn<R: ReadRecords, T: Sketch>(
+    alloc: Global,
+    start: T,
+    records: R,
+) -> Result<T, ToolError>
+    requires none { T.is_of start [] start }
+    ensures made { IfOk result (GathersRecords (T.is_of start) (R.known records)) }
+    ensures refused { IfErr result (RecordsRefused (R.known records)) }
+{
+    start.follow_items();
+    Ok(records.read_into(alloc, start)?)
 }

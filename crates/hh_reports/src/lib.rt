@@ -3,4 +3,4 @@
 
 mod report;
 
-pub use report::{Prepared, check_options, piece_count, prepare, report_rows, run_report};
+pub use report::{Prepared, check_options, prepare, report_rows, run_report};

@@ -1,9 +1,8 @@
 //! A report from a reader to a sink.
 
-ghost use Rattle.std.specs.Prelude.{◌≡◌, ◌<◌, ◌≤◌, List, false, true, length, IfOk, IfErr, IfSome, OnOk, MatchResult, Err, None, Ok, Some};
+ghost use Rattle.std.specs.Prelude.{◌≡◌, List, false, true, length, IfOk, IfErr, IfSome, OnOk, MatchResult, Err, None, Ok, Some};
 ghost use Rattle.hh_stream.specs.Cuttings.{max_pieces};
 ghost use Rattle.hh_workers.specs.Trees.{leaves};
-ghost use Rattle.hh_workers.specs.Workers.{max_workers};
 ghost use Rattle.hh_summaries.specs.Report.{IsShare, heavy};
 ghost use Rattle.hh_stream.specs.Ranges.{in_range};
 ghost use Rattle.hh_stream.specs.Weights.{Entry, total_of};
@@ -134,17 +133,6 @@ fn keys_of_stream<T: Threads + Wait + Sync, R: Read + Drop>(
     let stream = stream_of(alloc, records)?;
     let keys = heavy_keys(rt, alloc, &stream, plan, settings)?;
     Ok((stream.total(), keys))
-}
-
-/// The number of pieces in which `workers` workers read `texts` texts: four for each worker, and
-/// one for each text.
-pub fn piece_count(workers: u64, texts: usize) -> usize
-    requires { in_range workers max_workers ≡ true }
-    ensures some { 0 < result }
-    ensures few { result ≤ max_pieces }
-{
-    let most = MAX_PIECES - 4 * workers as usize;
-    4 * workers as usize + texts.min(most)
 }
 
 /// What a report is made by: the plan and the settings.

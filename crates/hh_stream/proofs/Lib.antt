@@ -1,2 +1,3 @@
 pub mod CuttingFacts
 mod ItemFacts
+pub mod TakingFacts

@@ -8,6 +8,7 @@ mod key;
 mod key_hash;
 pub mod laws;
 mod ranges;
+mod sketch;
 mod stream;
 mod taking;
 
@@ -17,5 +18,6 @@ pub use fault::StreamFault;
 pub use key::{INLINE_LEN, Key, MAX_KEY_LEN};
 pub use key_hash::{KeyHash, KeyHasher};
 pub use ranges::in_range;
+pub use sketch::{Sketch, add_each};
 pub use stream::{Item, MAX_TOTAL, PushRefused, Stream};
 pub use taking::{PieceFault, TakeItems};

@@ -11,11 +11,12 @@ ghost use Rattle.hh_summaries.specs.Report.{IsShare, heavy, rows_above, weights_
 ghost use Rattle.hh_tally.specs.Tallies.{AreBounds, AreFlags, IsLoss, IsRoom, and_sure, is_sure};
 ghost use Rattle.hh_tally.specs.Tallies.{contenders_of, empty_tally, merged_tally, pruned, tally_with};
 
+use crate::laws::tallies_bound_weights;
 use crate::lowering::{
     add_all, add_entry, flag_at, key_bytes, level_in, lower_if_over, sorted_above,
 };
 use crate::room::Room;
-use hh_stream::{Key, KeyHash, TakeItems};
+use hh_stream::{Key, KeyHash, MAX_TOTAL, PieceFault, Sketch, TakeItems};
 use hh_summaries::{Summary, cut};
 use indexmap::IndexMap;
 use std::alloc::{AllocError, Global};
@@ -255,6 +256,28 @@ impl TakeItems for Tally {
                 Err(refused)
             }
         }
+    }
+}
+
+impl Sketch for Tally {
+    ghost is_of = { λ s xs t. (t.room ≡ s.room) × AreBounds t xs };
+
+    fn fresh(&self, alloc: Global) -> Result<Tally, AllocError> {
+        tallies_bound_weights();
+        Tally::new(alloc, self.room, *self.index.hasher())
+    }
+
+    fn merge(self, alloc: Global, other: Tally) -> Result<Tally, PieceFault> {
+        tallies_bound_weights();
+        // The total is too large, where both have one room.
+        if !self.has_room_of(&other) || other.total > MAX_TOTAL - self.total {
+            return Err(PieceFault::Refused);
+        }
+        Ok(Tally::merge(self, alloc, &other)?)
+    }
+
+    fn follow_items(&self) {
+        tallies_bound_weights();
     }
 }
 

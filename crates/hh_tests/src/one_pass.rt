@@ -3,22 +3,31 @@
 use crate::fixtures::{
     assert_same, candidates_of, four_items, has_cells, has_counters, plain_family,
 };
-use hh_counters::Summary;
+use hh_counters::{Counts, Summary};
 use hh_countmin::Table;
-use hh_pool::{CutStream, count_pieces, tabulate_pieces, tally_pieces};
-use hh_stream::{Cutting, KeyHash};
-use hh_tally::Room;
+use hh_pool::CutStream;
+use hh_stream::{Cutting, KeyHash, Sketch};
+use hh_tally::{Room, Tally};
+use hh_workers::gather_pieces;
 use std::process::Abort;
 use std::sync::Wait;
 use std::thread::Threads;
 
-// What the candidates a and b weigh, and the total.
-fn counted<R: AllocGlobal + Threads + Wait + Abort + Sync>(rt: &R) -> (Vec<u64>, u64) {
+// What is gathered of the items, with the settings of `start`.
+fn gathered<R: AllocGlobal + Threads + Wait + Abort + Sync, T: Sketch>(rt: &R, start: &T) -> T {
     let stream = four_items(rt);
     let cutting = Cutting::even(rt.alloc(), stream.len(), 2).expect(rt, "pieces");
-    let candidates = candidates_of(rt);
     let pieces = CutStream::new(&stream, &cutting);
-    count_pieces(rt, rt.alloc(), &pieces, &candidates, 2).expect(rt, "counts")
+    gather_pieces(rt, rt.alloc(), &pieces, start, 2).expect(rt, "a sketch")
+}
+
+// What the candidates a and b weigh, and the total.
+fn counted<R: AllocGlobal + Threads + Wait + Abort + Sync>(rt: &R) -> (Vec<u64>, u64) {
+    let candidates = candidates_of(rt);
+    let start = Counts::new(rt.alloc(), &candidates).expect(rt, "counts");
+    let counts = gathered(rt, &start);
+    let total = counts.total();
+    (counts.into_weights(), total)
 }
 
 #[test]
@@ -30,11 +39,8 @@ fn candidates_are_counted(rt: HostRuntime) {
 
 // The table of the items.
 fn tabulated<R: AllocGlobal + Threads + Wait + Abort + Sync>(rt: &R) -> Table {
-    let stream = four_items(rt);
-    let cutting = Cutting::even(rt.alloc(), stream.len(), 2).expect(rt, "pieces");
-    let pieces = CutStream::new(&stream, &cutting);
-    let family = plain_family(rt);
-    tabulate_pieces(rt, rt.alloc(), &pieces, &family, 4, 2).expect(rt, "a table")
+    let start = Table::empty(rt.alloc(), plain_family(rt), 4).expect(rt, "a table");
+    gathered(rt, &start)
 }
 
 #[test]
@@ -44,13 +50,9 @@ fn table_is_filled(rt: HostRuntime) {
 
 // The summary of the items' tally, with two counters.
 fn summarised<R: AllocGlobal + Threads + Wait + Abort + Sync>(rt: &R) -> Summary {
-    let stream = four_items(rt);
-    let cutting = Cutting::even(rt.alloc(), stream.len(), 2).expect(rt, "pieces");
-    let pieces = CutStream::new(&stream, &cutting);
     let room = Room::for_counters(2);
-    let tally = tally_pieces(rt, rt.alloc(), &pieces, room, KeyHash::fixed(), 2).expect(
-        rt, "a tally",
-    );
+    let start = Tally::new(rt.alloc(), room, KeyHash::fixed()).expect(rt, "a tally");
+    let tally = gathered(rt, &start);
     tally.into_summary(rt.alloc(), 2).expect(rt, "a summary")
 }
 

@@ -1,3 +1,4 @@
+pub mod Gathered
 pub mod Pieces
 pub mod PlanTexts
 pub mod Plans

@@ -3,6 +3,7 @@
 #![tactic(auto)]
 
 mod gate;
+mod gathering;
 mod parsing;
 mod pass;
 mod pieces;
@@ -10,6 +11,7 @@ mod plan;
 mod workers;
 
 pub use gate::{Gate, OpenGate};
+pub use gathering::gather_pieces;
 pub use pass::{Pass, add_numbers, run_sequentially, run_worker};
 pub use pieces::{CutStream, Pieces, only_memory};
 pub use plan::{Plan, Tree};

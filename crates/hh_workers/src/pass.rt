@@ -17,7 +17,7 @@ pub trait Pass {
     /// What a worker has made of its pieces so far.
     type Local: Send + Drop;
     /// The part of the result that a worker gives beside its seat.
-    type Partial: Send + Drop + 'static;
+    type Partial: Send + Drop;
 
     /// How many pieces there are.
     ghost pieces: { Self → ℕ };

@@ -33,9 +33,6 @@ pub trait Pieces {
     // system they aren't, since it can change between two readings.
     ghost known: { Self → Type 0 };
 
-    // What is known of a piece that was handed over: that it can be read.
-    ghost reads: { Self → ℕ → Type 0 };
-
     // What is known of a piece that was refused although its items fit.
     ghost refuses: { Self → ℕ → Type 0 };
 
@@ -54,7 +51,6 @@ pub trait Pieces {
         requires { piece < length (pieces self.now) }
         ensures taken { OnOk result (Takes T.with_item T.weight_taken taker.old taker.new
             (λ xs. known self.now → xs ≡ piece_of (pieces self.now) piece)) }
-        ensures reads { OnOk result (known self.now → reads self.now piece) }
         ensures refused { IsErrOf result PieceFault.Refused → known self.now
             → refuses self.now piece ⊎ (max_total
             < T.weight_taken taker.old + total_of (piece_of (pieces self.now) piece)) };
@@ -93,8 +89,6 @@ impl<'a> Pieces for CutStream<'a> {
     ghost pieces = { λ pieces. pieces };
 
     ghost known = { λ _. Unit };
-
-    ghost reads = { λ _ _. Unit };
 
     ghost refuses = { λ _ _. ⊥ };
 

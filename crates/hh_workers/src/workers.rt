@@ -157,7 +157,7 @@ pub fn share_work<R: Threads + Wait + Sync, P: Pass + Sync>(
 /// Takes what [`share_work`] found or, where that is nothing, makes it in the calling thread, in a
 /// pass whose workers keep what they made. `workers` is the worker's number that the gate hears
 /// then.
-pub fn found_or_made<T: Send + Drop + 'static, P: Pass<Local = T, Partial = T>>(
+pub fn found_or_made<T: Send + Drop, P: Pass<Local = T, Partial = T>>(
     pass: &P,
     found: Option<(Vec<u64>, T)>,
     workers: u64,

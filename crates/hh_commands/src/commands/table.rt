@@ -1,19 +1,18 @@
 //! Records counted in a saved table.
 
-ghost use Rattle.std.specs.Prelude.{◌≡◌, true, IfOk, IfErr, IfSome, Err};
+ghost use Rattle.std.specs.Prelude.{◌≡◌, [], true, IfOk, IfErr, IfSome, Err};
 ghost use Rattle.hh_stream.specs.Ranges.{in_range};
 ghost use Rattle.hh_countmin.specs.Family.{drawn_family, max_depth, max_width};
 ghost use Rattle.hh_countmin.specs.Table.{empty_table, table_of};
 ghost use Rattle.hh_saved.specs.declared.saved.Saved.TheVariants.{Cells};
 ghost use Rattle.hh_commands.specs.Records.{SavesStream};
-ghost use Rattle.hh_records.specs.Refusals.{RecordsRefused, RefusedAfter};
-ghost use Rattle.hh_commands.specs.Table.{TabulatesRecords, bad_table};
+ghost use Rattle.hh_records.specs.Refusals.{RefusedAfter};
+ghost use Rattle.hh_commands.specs.Table.{bad_table};
 
 use crate::files::written;
-use hh_countmin::laws::tables_follow_items;
 use hh_countmin::{Family, MAX_DEPTH, MAX_WIDTH, Table};
 use hh_faults::ToolError;
-use hh_records::ReadRecords;
+use hh_records::{ReadRecords, gather_in_turn};
 use hh_saved::Saved;
 use hh_stream::in_range;
 use std::alloc::{AllocError, Global};
@@ -22,29 +21,11 @@ use std::alloc::{AllocError, Global};
 pub fn drawn_table(alloc: Global, width: u64, depth: u64, seed: u64) -> Result<Table, AllocError>
     requires depth { in_range depth max_depth ≡ true }
     requires width { in_range width max_width ≡ true }
-    ensures { IfOk result (λ table. table ≡ empty_table (drawn_family seed depth) width) }
+    ensures table { IfOk result (λ table. table ≡ empty_table (drawn_family seed depth) width) }
+    ensures none { IfOk result (λ table. table ≡ table_of (drawn_family seed depth) width []) }
 {
     let family = Family::of_seed(alloc, seed, depth)?;
     Table::empty(alloc, family, width)
-}
-
-/// The table of some records, in one pass that keeps no record.
-pub fn table_of_records<R: ReadRecords>(
-    alloc: Global,
-    width: u64,
-    depth: u64,
-    seed: u64,
-    records: R,
-) -> Result<Table, ToolError>
-    requires depth { in_range depth max_depth ≡ true }
-    requires width { in_range width max_width ≡ true }
-    ensures table { IfOk result
-        (TabulatesRecords (R.known records) (drawn_family seed depth) width) }
-    ensures refused { IfErr result (RecordsRefused (R.known records)) }
-{
-    tables_follow_items();
-    let table = drawn_table(alloc, width, depth, seed)?;
-    Ok(records.read_into(alloc, table)?)
 }
 
 /// The saved Count-Min table of some records (Cormode and Muthukrishnan 2005), with the hash family
@@ -71,6 +52,7 @@ pub fn table_bytes_from<R: ReadRecords>(
     if !in_range(width, MAX_WIDTH) {
         return Err(ToolError::BadWidth);
     }
-    let table = table_of_records(alloc, width, depth, seed, records)?;
+    let start = drawn_table(alloc, width, depth, seed)?;
+    let table = gather_in_turn(alloc, start, records)?;
     written(alloc, Saved::Cells(table))
 }

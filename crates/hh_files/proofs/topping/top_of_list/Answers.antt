@@ -4,7 +4,7 @@ use Rattle.hh_stream.specs.Weights.{Bytes}
 use Rattle.hh_tally.specs.Tallies.{TallyView}
 use Rattle.hh_top.specs.Top.{counted_of}
 use Rattle.hh_pieces.specs.Sources.{sources_known}
-use Rattle.hh_files.specs.TopFiles.{WeighsRecords}
+use Rattle.hh_files.specs.FilePasses.{WeighsRecords}
 use Rattle.hh_files.proofs.TopFacts.{greatest_refused}
 use Rattle.hh_files.proofs.topping.top_of_list.Goals as goal
 

@@ -26,7 +26,7 @@ returns-in_err-table_of_cells-in-Some-clause-refused g c is known =
     let shared = rw c.in-Some.is at c.in_ok-cells.ensures.done in
     let done = shared.done.1 known in
     let size = cells-of options shared.len c.depth.ensures.depth c.family.ensures.family c.width.ensures.width in
-    let parts = closed_table c.cells_are_cell_sums.ensures _ lists options shared.seat _ _ c.in-Some.cells.items done
+    let parts = closed_table c.cells_are_cell_sums.ensures lists options shared.seat _ _ c.in-Some.cells.items done
     shared.each size (λ cell inside. shared.sums cell (omega (arith, inside, shared.len, size))) in
     let refused : IsErrOf c.table_of_cells.result fault.Refused = search rules in
     absurd (c.table_of_cells.ensures.refused refused (whole_of lists) parts.0 done.1.bounded parts.1)
@@ -37,7 +37,7 @@ returns-in_ok-table_of_cells-in-Some-clause-table g c = λ known.
     let options = c.args.options.now in
     let shared = rw c.in-Some.is at c.in_ok-cells.ensures.done in
     let size = cells-of options shared.len c.depth.ensures.depth c.family.ensures.family c.width.ensures.width in
-    let parts = closed_table c.cells_are_cell_sums.ensures _ lists options shared.seat _ _ c.in-Some.cells.items
+    let parts = closed_table c.cells_are_cell_sums.ensures lists options shared.seat _ _ c.in-Some.cells.items
     (shared.done.1 known) shared.each size (λ cell inside. shared.sums cell (omega (arith, inside, shared.len, size))) in
     c.in_ok-table_of_cells-in-Some.ensures.table ∙ (λ i. record {
       family = options.family;

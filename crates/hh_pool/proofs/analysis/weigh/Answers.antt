@@ -1,7 +1,7 @@
 use Rattle.std.proofs.Common.{◌<◌, ◌≤◌, ◌∙◌, length, refl, arith, rules}
 use Rattle.hh_stream.specs.Cuttings.{whole_of}
 use Rattle.hh_stream.specs.Weights.{Entry, max_total, total_of}
-use Rattle.hh_pool.proofs.PieceFacts.{sum_by-all_items}
+use Rattle.hh_workers.proofs.PieceSums.{sum_by-all_items}
 use Rattle.hh_pool.proofs.Closed.{closed_weights}
 use Rattle.hh_pool.proofs.analysis.weigh.Goals as goal
 

@@ -1,7 +1,10 @@
 use Rattle.std.proofs.Common.{◌∙◌, length, arith}
 use Rattle.hh_shared.proofs.Tallies.{all-length}
+use Rattle.hh_stream.specs.Cuttings.{whole_of}
+use Rattle.hh_countmin.proofs.Tables.{same_table}
+use Rattle.hh_workers.specs.Pieces.{items_at}
+use Rattle.hh_workers.proofs.PieceSums.{sum_by-all_items}
 use Rattle.hh_pool.proofs.Closed.{each_summary}
-use Rattle.hh_pool.proofs.TableFacts.{whole_table}
 use Rattle.hh_pool.proofs.first.FirstPass.sequential.Goals as goal
 
 pub in_order-requires : goal.in_order-requires
@@ -22,4 +25,5 @@ returns-clause-table g c = λ known.
     let lists = g.P.Pieces.pieces c.args.self.now.pieces.now in
     let options = c.args.self.now.options.now in
     let (numbers, each, made) = c.in_ok-summaries.ensures.made in
-    (made.1 known).table ∙ whole_table lists options.family options.width numbers each
+    (made.1 known).table ∙ same_table options.family options.width (items_at lists numbers) (whole_of lists)
+    (λ f. sum_by-all_items f lists numbers each.distinct each.all)

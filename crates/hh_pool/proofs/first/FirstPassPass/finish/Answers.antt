@@ -18,10 +18,10 @@ returns-clause-done g c =
       omega (arith, c.requires.made.0.one_each, ap (λ h. length h.claims) unchanged),
       λ known.
           let made = c.requires.made.1 known in (
-            first_ends c.cells_are_cell_sums.ensures (g.P.Pieces.reads pieces) lists options seat _ _ c.args.made.table unchanged
+            first_ends c.cells_are_cell_sums.ensures lists options seat _ _ c.args.made.table unchanged
                 (λ cell. c.add_numbers.ensures.added cell
                 ∙ ap (λ xs. cell_total cell seat.adds + get_or xs cell 0) c.cells.ensures) c.requires.tried made,
-            first_taken (g.P.Pieces.reads pieces) lists options seat _ _ _ _ unchanged c.requires.tried.distinct made
+            first_taken lists options seat _ _ _ _ unchanged c.requires.tried.distinct made
                 c.total-total.ensures.total (omega (arith, c.total-total.ensures.fits.total_in_range)),
           ),
     )

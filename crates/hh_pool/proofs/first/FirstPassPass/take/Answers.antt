@@ -2,10 +2,11 @@ use Rattle.std.proofs.Common.{◌++◌, ◌∷◌, ◌∙◌, [], ap, arith, rul
 use Rattle.hh_stream.specs.Weights.{total_of}
 use Rattle.hh_countmin.specs.Table.{TableView, table_of}
 use Rattle.hh_summaries.specs.Counters.{sketch_of}
-use Rattle.hh_pool.specs.Passes.{items_at}
 use Rattle.hh_stream.specs.declared.taking.PieceFault.TheVariants as fault
 use Rattle.hh_pool.proofs.Held.{holds_more}
-use Rattle.hh_pool.proofs.Tried.{first_more, more_total, next_refused}
+use Rattle.hh_workers.specs.Pieces.{items_at}
+use Rattle.hh_workers.proofs.PieceSums.{more_total, next_refused}
+use Rattle.hh_pool.proofs.Tried.{first_more}
 use Rattle.hh_pool.proofs.first.FirstPassPass.take.Goals as goal
 
 pub returns-in_err-summary-clause-refused : goal.returns-in_err-summary-clause-refused
@@ -32,8 +33,7 @@ returns-clause-more g c numbers distinct made =
           (summarised.summary ∙ ap (sketch_of options.k) (summarised.given known)) in
           let table = summarised.table options.family options.width before (made.1 known).table
           ∙ ap (λ xs. table_of options.family options.width (before ++ xs)) (summarised.given known) in
-          first_more (g.P.Pieces.reads pieces) lists options numbers c.args.piece _ _ _ _ (c.in_ok-summary.ensures.reads known)
-          kept table (made.1 known),
+          first_more lists options numbers c.args.piece _ _ _ _ kept table (made.1 known),
     )
 
 pub returns-in_err-summary-clause-more : goal.returns-in_err-summary-clause-more

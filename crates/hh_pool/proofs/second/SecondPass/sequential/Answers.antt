@@ -1,7 +1,7 @@
 use Rattle.std.proofs.Common.{◌∙◌}
 use Rattle.hh_stream.specs.Weights.{Entry}
 use Rattle.hh_pool.proofs.Closed.{whole_weights}
-use Rattle.hh_pool.proofs.PieceFacts.{sum_by-all_items}
+use Rattle.hh_workers.proofs.PieceSums.{sum_by-all_items}
 use Rattle.hh_pool.proofs.second.SecondPass.sequential.Goals as goal
 
 pub returns-clause-weights : goal.returns-clause-weights

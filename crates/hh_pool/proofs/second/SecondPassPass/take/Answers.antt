@@ -1,9 +1,10 @@
 use Rattle.std.proofs.Common.{rules, IsErrOf}
 use Rattle.hh_stream.specs.Weights.{total_of}
-use Rattle.hh_pool.specs.Passes.{items_at}
 use Rattle.hh_stream.specs.declared.taking.PieceFault.TheVariants as fault
 use Rattle.hh_pool.proofs.Held.{counted_known, counted_more}
-use Rattle.hh_pool.proofs.Tried.{more_total, next_refused, second_more}
+use Rattle.hh_workers.specs.Pieces.{items_at}
+use Rattle.hh_workers.proofs.PieceSums.{more_total, next_refused}
+use Rattle.hh_pool.proofs.Tried.{second_more}
 use Rattle.hh_pool.proofs.second.SecondPassPass.take.Goals as goal
 
 pub returns-in_err-count_piece-clause-refused : goal.returns-in_err-count_piece-clause-refused
