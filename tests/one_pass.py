@@ -31,6 +31,10 @@ LONG_TEXTS = {
     "fields": (3, [], b"%s\n", b","),
     "fields that no column names": (0, COLUMNS, b"a,3,%s\nb,4\n", b","),
     "quoted fields that none names": (0, COLUMNS, b'a,3,"x"%s\nb,4\n', b',""'),
+    "fields where quotes are none": (0, [*COLUMNS, "--no-quotes"], b"a,3,%s\nb,4\n", b',"'),
+    "squeezed fields": (0, [*COLUMNS, "--squeeze", "--delimiter", ","], b"a,3%s\nb,4\n", b",x"),
+    "delimiters that are one": (0, [*COLUMNS, "--squeeze", "--delimiter", ","], b"a%s,3\nb,4\n", b","),
+    "fields behind a part of the key": (0, [*COLUMNS, "--prefix", "1"], b"a,3,%s\nb,4\n", b","),
     "records that end in CR": (3, [], b"%sb,x\n", b"a,1\r"),
 }
 
