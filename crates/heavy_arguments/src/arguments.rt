@@ -298,9 +298,6 @@ pub const JSON: Named = Argument {
         as /a/b",
 };
 
-/// The options by which a report goes by a plan.
-pub const PLAN: &[Named] = &[PIECES, TREE, WIDTH, DEPTH, SEED];
-
 /// How records are read.
 pub const COLUMNS: &[Named] = &[
     DELIMITER, HEADER, KEY, WEIGHT, ALLOW_ZERO, BAD_AS, DECIMALS, UNTIL, PREFIX, NO_QUOTES,

@@ -1,6 +1,6 @@
 -- What a command line asks for, by what the program's own command line finds in it. What an option is called, and its
 -- default, stand in the table of commands.
-use Rattle.std.specs.Prelude.{ℕ, ◌≡◌, ◌≢◌, ◌⊎◌, ◌-◌, ◌^◌, ◌==◌, ◌&&◌, ◌||◌, Bool, is_none, is_some, ⊤, true, false, not, List, [], ◌∷◌, Option, Some, None, bytes_eq, codes, length, map, drop, option_map, slice_index_or, unwrap_or, if◌then◌else◌}
+use Rattle.std.specs.Prelude.{ℕ, ◌≡◌, ◌≢◌, ◌⊎◌, ◌-◌, ◌^◌, ◌==◌, ◌&&◌, ◌||◌, Bool, is_none, is_some, ⊤, true, false, not, List, [], Option, Some, None, bytes_eq, codes, length, map, drop, option_map, slice_index_or, unwrap_or, if◌then◌else◌}
 use Rattle.std.specs.List.{flat_map, list_any, slice_split}
 use Rattle.clap.specs.Words.{App, IsAmong, Text, fault_of, first_value, kind_of, matched_of, one_text, raw_values, rows_of, subcommand_of, takes}
 use Rattle.clap.specs.declared.error.kind.ErrorKind.{ErrorKind}
@@ -19,7 +19,7 @@ use Rattle.hh_rows.specs.declared.output.Form.TheVariants as form
 use Rattle.hh_rows.specs.declared.output.Output.{Output}
 use Rattle.heavy_arguments.specs.CommandLine.{IsProgram, memory_of, name_of, workers_of}
 use Rattle.heavy_arguments.specs.Found.{IsFlag, IsNumber, IsNumberGiven, number_of_kind, text_found}
-use Rattle.heavy_arguments.specs.declared.arguments.TheConstants.{ALLOW_ZERO, BAD_AS, DECIMALS, DELIMITER, DEPTH, EXPLAIN, GREATEST, HEADER, JSON, K, KEY, KEYS, LINES, MEMORY, METHOD, NAMES, NO_QUOTES, OUTPUT, PIECES, PLAN, PREFIX, PROGRESS, RECORDS, SAVED_FILES, SEED, SHARE, SQUEEZE, THRESHOLD, TOP, TREE, UNTIL, WEIGHT, WIDTH, WORKERS}
+use Rattle.heavy_arguments.specs.declared.arguments.TheConstants.{ALLOW_ZERO, BAD_AS, DECIMALS, DELIMITER, DEPTH, EXPLAIN, GREATEST, HEADER, JSON, K, KEY, KEYS, LINES, MEMORY, METHOD, NAMES, NO_QUOTES, OUTPUT, PIECES, PREFIX, PROGRESS, RECORDS, SAVED_FILES, SEED, SHARE, SQUEEZE, THRESHOLD, TOP, TREE, UNTIL, WEIGHT, WIDTH, WORKERS}
 use Rattle.heavy_arguments.specs.declared.options.Argument.{Argument}
 use Rattle.heavy_arguments.specs.declared.verbs.Verb.{Verb}
 use Rattle.heavy_host.specs.Words.{AreAllWords, word_of}
@@ -113,11 +113,12 @@ IsAbsent found name = one_text found name ≡ None
 pub record IsFormat (found : Found) (written : Format) : Type 0 where
   pub json : IsGiven found JSON.name.now → written ≡ format.Json
   pub lines : IsAbsent found JSON.name.now → IsGiven found LINES.name.now → written ≡ format.Lines
-  pub squeezed : IsAbsent found JSON.name.now → IsAbsent found LINES.name.now → IsGiven found SQUEEZE.name.now → written ≡ format.Squeezed
-  pub unquoted : IsAbsent found JSON.name.now → IsAbsent found LINES.name.now → IsAbsent found SQUEEZE.name.now → IsGiven found NO_QUOTES.name.now
-      → written ≡ format.Unquoted
-  pub csv : IsAbsent found JSON.name.now → IsAbsent found LINES.name.now → IsAbsent found SQUEEZE.name.now → IsAbsent found NO_QUOTES.name.now
-      → written ≡ format.Csv
+  pub squeezed : IsAbsent found JSON.name.now → IsAbsent found LINES.name.now → IsGiven found SQUEEZE.name.now
+      → written ≡ format.Squeezed
+  pub unquoted : IsAbsent found JSON.name.now → IsAbsent found LINES.name.now → IsAbsent found SQUEEZE.name.now
+      → IsGiven found NO_QUOTES.name.now → written ≡ format.Unquoted
+  pub csv : IsAbsent found JSON.name.now → IsAbsent found LINES.name.now → IsAbsent found SQUEEZE.name.now
+      → IsAbsent found NO_QUOTES.name.now → written ≡ format.Csv
 
 -- the records that are read: their files in order, and where their columns stand
 pub record AreRecordWords (found : Found) (records : RecordWords) : Type 0 where
@@ -133,9 +134,15 @@ pub record AreRecordWords (found : Found) (records : RecordWords) : Type 0 where
   pub until : records.layout.until.items ≡ word_of (text_found (λ t. t.now) found UNTIL)
   pub prefix : IsNumberGiven found PREFIX.name.now records.layout.prefix
 
+-- whether an option is given
+abbrev pub is_given : Found → Text → Bool
+is_given found name = is_some (matched_of found name)
+
 -- whether a plan is asked for, by one of its options
 abbrev pub asks_plan : Found → Bool
-asks_plan found = list_any (λ it. is_some (matched_of found it.name.now)) PLAN.now
+asks_plan found =
+    is_given found PIECES.name.now || is_given found TREE.name.now || is_given found WIDTH.name.now
+    || is_given found DEPTH.name.now || is_given found SEED.name.now
 
 -- a command with this name asks for it
 pub record AsksFor (name : Text) (found : Found) (asked : Asked) : Type 0 where

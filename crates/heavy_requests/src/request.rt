@@ -16,7 +16,7 @@ use crate::usage_report::{UsageReport, usage_report_of};
 use clap::ArgMatches;
 use heavy_arguments::arguments::{
     ALLOW_ZERO, BAD_AS, DECIMALS, DELIMITER, DEPTH, EXPLAIN, GREATEST, HEADER, JSON, K, KEY, KEYS,
-    LINES, METHOD, NAMES, NO_QUOTES, OUTPUT, PIECES, PLAN, PREFIX, PROGRESS, RECORDS, SAVED_FILES,
+    LINES, METHOD, NAMES, NO_QUOTES, OUTPUT, PIECES, PREFIX, PROGRESS, RECORDS, SAVED_FILES,
     SEED, SHARE, SQUEEZE, THRESHOLD, TOP, TREE, UNTIL, WEIGHT, WIDTH,
 };
 use heavy_arguments::{Named, Pass, Verb, command_line};
@@ -336,7 +336,11 @@ fn output_of(found: &ArgMatches) -> Output
 fn asks_plan(found: &ArgMatches) -> bool
     ensures { result ≡ asks_plan (found_of found.now) }
 {
-    PLAN.iter().any(|argument| found.contains_id(argument.name))
+    found.contains_id(PIECES.name)
+        || found.contains_id(TREE.name)
+        || found.contains_id(WIDTH.name)
+        || found.contains_id(DEPTH.name)
+        || found.contains_id(SEED.name)
 }
 
 /// Reads what a report is of, and how it is made. A command with another `verb` has some of it.
