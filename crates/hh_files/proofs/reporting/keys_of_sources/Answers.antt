@@ -5,7 +5,7 @@ use Rattle.hh_files.specs.ReportFiles.{FindsKeys}
 use Rattle.hh_files.proofs.reporting.keys_of_sources.Goals as goal
 
 pub heavy_by-requires-clause-enough : goal.heavy_by-requires-clause-enough
-heavy_by-requires-clause-enough g c =
+heavy_by-requires-clause-enough g c = λ κs outlives.
     let (xs, reads, of, bounds) = c.in_ok-tally.ensures.tally in
     let few = ap (λ (r : Room). r.few) (of ∙ c.for_counters-room.ensures.room) in
     let half : c.in_ok-tally.tally.room.few / 2 ≡ c.args.k + 1 = omega (arith, few) in
