@@ -170,12 +170,13 @@ fn reads_on(is_long: bool, window: &Window) -> bool {
 }
 
 /// Hands on what records at the front of `window` add, which `reader` has the rest of, byte by
-/// byte. It takes one, and more as long as the next line has a quote or, of a text that `is_long`,
+/// byte, into `record` and `room`. It takes one, and more as long as the next line has a quote or, of a text that `is_long`,
 /// the window holds [`LEAST_HELD`] bytes. It counts all records, with the number of those `before`,
 /// and those that are `bad`.
 fn take_records<R: Read, T: TakeItems>(
-    alloc: Global,
     columns: &Columns,
+    record: &mut LongRecord,
+    room: &mut Room,
     is_long: bool,
     window: &mut Window,
     reader: &mut R,
@@ -200,8 +201,6 @@ fn take_records<R: Read, T: TakeItems>(
         (option_map (parts_in layout.now columns.now)
         (prepend_known (held_in window.old) (R.remaining reader.old))) error) }
 {
-    let mut record = LongRecord::new(alloc);
-    let mut room = Room::new(alloc);
     let limits = Limits::of(layout, columns);
     let syntax = syntax_of(layout);
     let mut taken = Taken {
@@ -216,15 +215,7 @@ fn take_records<R: Read, T: TakeItems>(
             return Ok(taken);
         }
         taken.number += 1;
-        take_row(
-            taker,
-            &mut room,
-            &record.row,
-            columns,
-            taken.number,
-            bad,
-            layout,
-        )?;
+        take_row(taker, room, &record.row, columns, taken.number, bad, layout)?;
         goes_on = reads_on(is_long, window);
     }
     Ok(taken)
@@ -261,6 +252,8 @@ fn take_held<R: Read, T: TakeItems>(
         (prepend_known (held_in window.old) (R.remaining reader.old))) error) }
 {
     let quotes_apart = has_quotes_apart(layout, columns);
+    let mut record = LongRecord::new(alloc);
+    let mut room = Room::new(alloc);
     let mut taken = Taken {
         number: before,
         outside: true,
@@ -283,7 +276,16 @@ fn take_held<R: Read, T: TakeItems>(
             return Ok(Taken { number, outside });
         }
         taken = take_records(
-            alloc, columns, is_long, window, reader, number, taker, bad, layout,
+            columns,
+            &mut record,
+            &mut room,
+            is_long,
+            window,
+            reader,
+            number,
+            taker,
+            bad,
+            layout,
         )?;
     }
     Err(TextError::ReadFault)
