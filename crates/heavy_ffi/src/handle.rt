@@ -134,8 +134,8 @@ fn begin(
     }
 }
 
-/// Makes the summary of no items, with k counters, in place of what `heavy` has. Its calls hash keys
-/// by these words, which decide how fast they are found, and nothing else.
+/// Makes the summary of no items, with k counters, in place of what `heavy` has. Its calls hash
+/// keys by these words, which decide how fast they are found, and nothing else.
 #[unsafe(no_mangle)]
 pub extern "C" fn proved_new_summary(
     alloc: Global,
@@ -153,8 +153,8 @@ pub extern "C" fn proved_new_summary(
     begin(alloc, made, hash, heavy, fault)
 }
 
-/// Makes the Count-Min table of no items, with the hash family that is drawn from the seed, in place
-/// of what `heavy` has. The depth is tested first, then the width.
+/// Makes the Count-Min table of no items, with the hash family that is drawn from the seed, in
+/// place of what `heavy` has. The depth is tested first, then the width.
 #[unsafe(no_mangle)]
 pub extern "C" fn proved_new_table(
     alloc: Global,

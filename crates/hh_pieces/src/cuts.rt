@@ -212,8 +212,8 @@ pub(crate) fn begins_with_quotes(text: &[u8]) -> bool {
     at < text.len() && text[at] == b'"'
 }
 
-/// Gives how many bytes at the front of a part of a text of `layout` are whole records: those before
-/// the line of the first quote where quotes are read apart, and else all.
+/// Gives how many bytes at the front of a part of a text of `layout` are whole records: where
+/// `quotes_apart`, those before the line of the first quote, and else all.
 pub(crate) fn front_records(text: &[u8], quotes_apart: bool, layout: &Layout) -> Option<usize>
     ensures { IfSome result (λ count. (count ≤ length text.now)
         × IsCutAt (config_of layout.now) text.now count) }

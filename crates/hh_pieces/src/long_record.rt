@@ -165,8 +165,8 @@ impl Limits {
         bytes: None,
     };
 
-    /// Gives how much is kept of records that `layout` reads by these `columns`: all, or what decides
-    /// what they add.
+    /// Gives how much is kept of records that `layout` reads by these `columns`: all, or what
+    /// decides what they add.
     pub(crate) fn of(layout: &Layout, columns: &Columns) -> Limits
         ensures { (t : ℕ) (fs : Fields) →
             adds layout.now t (parts_at layout.now columns.now (spec.kept_of result fs))

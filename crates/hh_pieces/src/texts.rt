@@ -123,9 +123,9 @@ pub(crate) struct Taken {
     pub(crate) outside: bool,
 }
 
-/// Hands on what whole records at the front of `window` add, and counts all records, with the number
-/// of those `before`, and those that are `bad`. Where `quotes_apart` they are those before the line
-/// of the first quote, and else all.
+/// Hands on what whole records at the front of `window` add, and counts all records, with the
+/// number of those `before`, and those that are `bad`. Where `quotes_apart` they are those before
+/// the line of the first quote, and else all.
 fn take_whole<T: TakeItems>(
     alloc: Global,
     columns: &Columns,
@@ -170,9 +170,9 @@ fn reads_on(is_long: bool, window: &Window) -> bool {
 }
 
 /// Hands on what records at the front of `window` add, which `reader` has the rest of, byte by
-/// byte, into `record` and `room`. It takes one, and more as long as the next line has a quote or, of a text that `is_long`,
-/// the window holds [`LEAST_HELD`] bytes. It counts all records, with the number of those `before`,
-/// and those that are `bad`.
+/// byte, by way of `record` and `room`. It takes one, and more as long as the next line has a quote
+/// or, of a text that `is_long`, the window holds [`LEAST_HELD`] bytes. It counts all records, with
+/// the number of those `before`, and those that are `bad`.
 fn take_records<R: Read, T: TakeItems>(
     columns: &Columns,
     record: &mut LongRecord,

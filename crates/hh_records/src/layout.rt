@@ -198,8 +198,8 @@ impl Model for Columns {
 }
 
 impl Columns {
-    /// Finds the columns that `layout` names in a text with this `header`, or one of no fields where
-    /// it is to have none.
+    /// Finds the columns that `layout` names in a text with this `header`, which has no fields
+    /// where the text is to have none.
     pub fn by_header(
         alloc: Global,
         layout: &Layout,
