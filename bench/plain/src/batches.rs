@@ -4,8 +4,10 @@
 use crate::counting::Map;
 use crate::reading;
 use crate::report::write_heavy;
+use std::hint::black_box;
 use std::io::{self, Read};
 use std::thread;
+use std::time::Instant;
 
 /// The most keys of a worker's sums before they are lowered, or 2 (k + 1) where that is more.
 const ROOM: usize = 4096;
@@ -78,24 +80,37 @@ fn counted(piece: &[u8], candidates: &Map<&[u8], usize>) -> Vec<u64> {
     weights
 }
 
+/// The keys that can be heavy.
+fn candidates(all: &Batches, k: usize) -> Vec<&[u8]> {
+    let reaches = |sum: &u64| u128::from(sum + all.lost) * (k as u128 + 1) > u128::from(all.total);
+    all.sums.iter().filter(|(_, sum)| reaches(sum)).map(|(key, _)| &**key).collect()
+}
+
+/// Keys with their places.
+fn places<'k>(keys: &[&'k [u8]]) -> Map<&'k [u8], usize> {
+    keys.iter().enumerate().map(|(place, &key)| (key, place)).collect()
+}
+
+/// The sums of a text.
+fn batches_of(text: &[u8], k: usize) -> Batches {
+    let mut batches = Batches::new(k);
+    reading::each_line_of(text, |key, weight| batches.add(key, weight));
+    batches
+}
+
 /// Writes the heavy keys: by one pass where nothing was lost, and else by two.
 pub fn report(k: usize, workers: usize) {
     let mut text = Vec::new();
     io::stdin().lock().read_to_end(&mut text).expect("input");
     let pieces = reading::pieces(&text, workers);
-    let all = on_each(&pieces, |piece| {
-        let mut batches = Batches::new(k);
-        reading::each_line_of(piece, |key, weight| batches.add(key, weight));
-        batches
-    });
+    let all = on_each(&pieces, |piece| batches_of(piece, k));
     let all = all.into_iter().reduce(Batches::merge).expect("a piece");
-    let reaches = |sum: &u64| u128::from(sum + all.lost) * (k as u128 + 1) > u128::from(all.total);
-    let keys: Vec<&[u8]> = all.sums.iter().filter(|(_, sum)| reaches(sum)).map(|(key, _)| &**key).collect();
+    let keys = candidates(&all, k);
     if all.lost == 0 {
         return write_heavy(k, all.total, keys.iter().map(|&key| (key, all.sums[key])));
     }
-    let candidates: Map<&[u8], usize> = keys.iter().enumerate().map(|(place, &key)| (key, place)).collect();
-    let weights = on_each(&pieces, |piece| counted(piece, &candidates));
+    let places = places(&keys);
+    let weights = on_each(&pieces, |piece| counted(piece, &places));
     let sum_of = |place: usize| weights.iter().map(|of_piece| of_piece[place]).sum::<u64>();
     write_heavy(k, all.total, keys.iter().enumerate().map(|(place, &key)| (key, sum_of(place))));
 }
@@ -110,4 +125,27 @@ pub fn total(workers: usize) {
         total
     });
     println!("{}", totals.iter().sum::<u64>());
+}
+
+/// Times a stage of a report by one thread over the text of standard input, which is read before, but for `bytes`: the
+/// nanoseconds of all records.
+pub fn stage(name: &str, k: usize) -> u128 {
+    if name == "bytes" {
+        let (start, mut buffer) = (Instant::now(), vec![0; 65_536]);
+        while io::stdin().lock().read(&mut buffer).expect("input") > 0 {}
+        return start.elapsed().as_nanos();
+    }
+    let mut text = Vec::new();
+    io::stdin().lock().read_to_end(&mut text).expect("input");
+    let all = batches_of(&text, k);
+    let places = places(&candidates(&all, k));
+    let (start, mut sum) = (Instant::now(), 0);
+    match name {
+        "scan" => reading::each_line_of(&text, |key, _| sum += key.len() as u64),
+        "number" => reading::each_line_of(&text, |key, weight| sum += key.len() as u64 + weight),
+        "tally" => sum = batches_of(&text, k).total,
+        _ => sum = counted(&text, &places).len() as u64,
+    }
+    black_box(sum);
+    start.elapsed().as_nanos()
 }

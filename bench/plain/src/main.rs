@@ -5,6 +5,8 @@
 //! plain groups K WORKERS < FILE          the same over pieces of the text, a map for each worker, merged at the end
 //! plain batches K WORKERS < FILE         the heavy keys, by sums over pieces of the text that are lowered in batches
 //! plain total WORKERS < FILE             the total weight over pieces of the text: reading, splitting and numbers alone
+//! plain stage STAGE K < FILE             prints the nanoseconds that a stage of a report takes for all records, as heavy_bench
+//!                                        does; STAGE is bytes, scan, number, tally or count
 //! plain mg|ss K < FILE                   counts by Misra and Gries or by Space-Saving, no record kept
 //! plain columns K KEY WEIGHT < FILE      as mg, by the columns with these numbers, over the crate csv alone
 //! plain table < FILE                     a Count-Min table, no record kept
@@ -62,6 +64,7 @@ fn main() {
         "groups" => report::by_groups(number(2), number(3)),
         "batches" => batches::report(number(2), number(3)),
         "total" => batches::total(number(2)),
+        "stage" => println!("{}", batches::stage(&words[2], number(3))),
         "mg" => {
             let (k, mut counters) = (number(2), Map::default());
             reading::each_record(|key, weight| counting::misra_gries(&mut counters, k, key, weight));

@@ -53,7 +53,7 @@ impl Call {
 }
 
 /// What a call gave, or that it was refused.
-fn given<T, E: Drop>(made: Result<T, E>) -> Result<T, BenchFault>
+pub(crate) fn given<T, E: Drop>(made: Result<T, E>) -> Result<T, BenchFault>
     ensures { IfOk result (λ value. made ≡ Ok value) }
 {
     match made {
@@ -62,7 +62,8 @@ fn given<T, E: Drop>(made: Result<T, E>) -> Result<T, BenchFault>
     }
 }
 
-fn now(rt: &HostRuntime) -> Result<Instant, BenchFault> {
+/// Reads the clock.
+pub(crate) fn now(rt: &HostRuntime) -> Result<Instant, BenchFault> {
     match Instant::now(rt) {
         Ok(now) => Ok(now),
         Err(_) => Err(BenchFault::Clock),
@@ -70,7 +71,7 @@ fn now(rt: &HostRuntime) -> Result<Instant, BenchFault> {
 }
 
 /// Divides the nanoseconds since `start` by `steps`.
-fn for_each(rt: &HostRuntime, start: Instant, steps: usize) -> Result<u128, BenchFault> {
+pub(crate) fn for_each(rt: &HostRuntime, start: Instant, steps: usize) -> Result<u128, BenchFault> {
     match start.elapsed(rt) {
         Ok(elapsed) => Ok(elapsed.as_nanos() / (steps.max(1) as u128)),
         Err(_) => Err(BenchFault::Clock),
