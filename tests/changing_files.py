@@ -213,9 +213,9 @@ class Changing(programs.Checks):
                 self.check(f"{name}, or read as it was before", not others, others[:2])
 
     def test_another_text(self) -> None:
-        """Of a file whose bytes are others in a later reading, of the same size and with the old time, `top` says what it had
-        before or has since, or that it could not be read: never the greatest keys of the one with weights of the other. They
-        come late, so that the file is read again to count them."""
+        """Of a file whose bytes are others in a later reading, of the same size and with the old time, `top` and `report` say
+        what they had before or have since, or that it could not be read: never the greatest keys of the one with weights of
+        the other. They come late, so that the file is read again to count them."""
         before = b"".join(b"%s,1\n" % key for key in KEYS) + b"a,5000\nz,1000\n"
         since = before.replace(b"a,5000", b"a,6000").replace(b"z,1000", b"z,9000")
 
@@ -223,14 +223,20 @@ class Changing(programs.Checks):
             put(path, 0, since)
             os.utime(path, (1_000_000_000, 1_000_000_000))
 
-        for workers in "14":
-            command = Command("top", ["top", "--memory", "0", "--workers", workers, "1", str(self.path)])
-            either = [self.plain(command.words, before), self.plain(command.words, since)]
-            self.check("top of both", [said[1] for said in either] == [b"a,5000\n", b"z,9000\n"], either)
-            found = self.said_after(command, before, Change("another with the old time", rewrite))
-            refused = [said for said in found if said[:2] == (1, b"")]
-            others = [(at, said) for at, said in enumerate(found, 1) if said not in either and said not in refused]
-            self.check("top of a file that is another", bool(refused) and not others, (len(refused), others[:2]))
+        path = str(self.path)
+        for words, rows in (
+            (["top", "--memory", "0", "1", path], [b"a,5000\n", b"z,9000\n"]),
+            (["report", "--k", "5", path], [b"a,5000\n", b"z,9000\na,6000\n"]),
+        ):
+            for workers in "14":
+                command = Command(words[0], [words[0], "--workers", workers, *words[1:]])
+                either = [self.plain(command.words, text) for text in (before, since)]
+                self.check(f"{command.name} of both", [said[1] for said in either] == rows, either)
+                found = self.said_after(command, before, Change("another with the old time", rewrite))
+                refused = [said for said in found if said[:2] == (1, b"")]
+                others = [(at, said) for at, said in enumerate(found, 1) if said not in either and said not in refused]
+                said = (len(refused), others[:2])
+                self.check(f"{command.name} of a file that is another", bool(refused) and not others, said)
 
     def test_pieces(self) -> None:
         """Files of two pieces."""
