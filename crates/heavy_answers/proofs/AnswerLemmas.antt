@@ -17,15 +17,10 @@ pub if_err_more : {A E : Type 0} {P Q : E → Type 0} (r : Result A E) → ((e :
 if_err_more (Ok a) more holds = tt
 if_err_more (Err e) more holds = more e holds
 
--- what holds of a success by a file that is given holds by some file
-pub if_ok_by : {A E F : Type 0} (Given : F → Type 0) (P : F → A → Type 0) (r : Result A E) (file : F) → Given file → IfOk r (P file)
-    → IfOk r (λ a. (f : F) × Given f × P f a)
-if_ok_by Given P r file given = if_ok_more r (λ a holds. (file, given, holds))
-
 -- what holds of a refusal by a file that is given holds by some file, or something else does
-pub if_err_by : {A E F : Type 0} (M N : E → Type 0) (Given : F → Type 0) (P : F → E → Type 0) (r : Result A E) (file : F) → Given file
-    → IfErr r (P file) → IfErr r (λ e. M e ⊎ N e ⊎ ((f : F) × Given f × P f e))
-if_err_by M N Given P r file given = if_err_more r (λ e holds. inr (inr (file, given, holds)))
+pub if_err_by : {A E F : Type 0} (M : E → Type 0) (Given : F → Type 0) (P : F → E → Type 0) (r : Result A E) (file : F) → Given file
+    → IfErr r (P file) → IfErr r (λ e. M e ⊎ ((f : F) × Given f × P f e))
+if_err_by M Given P r file given = if_err_more r (λ e holds. inr (file, given, holds))
 
 -- what is true holds
 abbrev pub Holds : Bool → Type 0
