@@ -1,7 +1,7 @@
-use Rattle.std.proofs.Common.{IfErr, IfOk, subst, sym}
+use Rattle.std.proofs.Common.{IfErr, IfOk, inr, subst, sym}
 use Rattle.heavy_answers.specs.Answers.{Answers}
 use Rattle.heavy_answers.specs.Refusals.{Fails}
-use Rattle.heavy_answers.proofs.AnswerLemmas.{if_err_by}
+use Rattle.heavy_answers.proofs.AnswerLemmas.{if_err_more}
 use Rattle.heavy_answers.proofs.answering.bytes_of.Goals as goal
 
 pub returns-in-Report-clause-made : goal.returns-in-Report-clause-made
@@ -30,5 +30,6 @@ returns-in-Pass-clause-refused g c =
 
 pub returns-in_ok-file-in-Ask-clause-refused : goal.returns-in_ok-file-in-Ask-clause-refused
 returns-in_ok-file-in-Ask-clause-refused g c =
-    rw c.in-Ask.is (if_err_by _ _ _ c.ask_rows.result c.in_ok-file-in-Ask.file.items c.in_ok-file-in-Ask.ensures.read
+    rw c.in-Ask.is (if_err_more c.ask_rows.result
+    (λ fault fails. inr (c.in_ok-file-in-Ask.file.items, c.in_ok-file-in-Ask.ensures.read, fails))
     (rw (c.deref-in-Ask.ensures.value, c.deref-in-Ask-2.ensures.value) at c.ask_rows.ensures.refused))
