@@ -1,5 +1,5 @@
 -- What holds of an outcome, and more.
-use Rattle.std.proofs.Common.{◌≡◌, ◌∙◌, ◌⊎◌, ℕ, Bool, true, false, List, Option, IfOk, IfErr, Result, Ok, Err, inr, sym, subst}
+use Rattle.std.proofs.Common.{◌≡◌, ◌∙◌, ℕ, Bool, true, false, List, Option, IfOk, IfErr, Result, Ok, Err, sym, subst}
 use Rattle.std.specs.Prelude.{⊤}
 use Rattle.hh_records.specs.Streams.{Known}
 use Rattle.hh_records.specs.declared.layout.Layout.{Layout}
@@ -16,16 +16,6 @@ if_ok_more (Err e) more holds = tt
 pub if_err_more : {A E : Type 0} {P Q : E → Type 0} (r : Result A E) → ((e : E) → P e → Q e) → IfErr r P → IfErr r Q
 if_err_more (Ok a) more holds = tt
 if_err_more (Err e) more holds = more e holds
-
--- what holds of a success by a file that is given holds by some file
-pub if_ok_by : {A E F : Type 0} (Given : F → Type 0) (P : F → A → Type 0) (r : Result A E) (file : F) → Given file → IfOk r (P file)
-    → IfOk r (λ a. (f : F) × Given f × P f a)
-if_ok_by Given P r file given = if_ok_more r (λ a holds. (file, given, holds))
-
--- what holds of a refusal by a file that is given holds by some file, or something else does
-pub if_err_by : {A E F : Type 0} (M N : E → Type 0) (Given : F → Type 0) (P : F → E → Type 0) (r : Result A E) (file : F) → Given file
-    → IfErr r (P file) → IfErr r (λ e. M e ⊎ N e ⊎ ((f : F) × Given f × P f e))
-if_err_by M N Given P r file given = if_err_more r (λ e holds. inr (inr (file, given, holds)))
 
 -- what is true holds
 abbrev pub Holds : Bool → Type 0

@@ -1,6 +1,6 @@
 //! The calls of the libraries that answer what is asked for.
 
-ghost use Rattle.std.specs.Prelude.{◌≡◌, false, map, option_map, IfErr, IfOk, OnOk};
+ghost use Rattle.std.specs.Prelude.{◌≡◌, false, map, option_map, true, IfErr, IfOk, OnOk};
 ghost use Rattle.hh_commands.specs.Files.{Refuses};
 ghost use Rattle.hh_commands.specs.Merge.{merged_files};
 ghost use Rattle.heavy_answers.specs.Answers.{Answers, IsAnswered, MakesMerge, OfRecords};

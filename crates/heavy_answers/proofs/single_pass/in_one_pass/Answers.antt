@@ -33,8 +33,8 @@ returns-in_err-bytes-in-Files-clause-refused g c =
 pub answer_by_one_thread-requires : goal.answer_by_one_thread-requires
 answer_by_one_thread-requires g c = record { workers = (rw c.in-Stream.is at c.in_ok-files.ensures.records).1 }
 
-pub returns-in_ok-bytes-in-Files-clause-made : goal.returns-in_ok-bytes-in-Files-clause-made
-returns-in_ok-bytes-in-Files-clause-made g c =
+pub returns-in-Files-clause-made : goal.returns-in-Files-clause-made
+returns-in-Files-clause-made g c =
     let files = c.in-Files.files in (
       c.in_ok-file.file.items,
       c.in_ok-file.ensures.file,
@@ -46,8 +46,8 @@ returns-in_ok-bytes-in-Files-clause-made g c =
       },
     )
 
-pub returns-in-Stream-clause-made : goal.returns-in-Stream-clause-made
-returns-in-Stream-clause-made g c =
+pub returns-clause-made : goal.returns-clause-made
+returns-clause-made g c =
     let records = c.in-Stream.records in
     if_ok_more c.answer_by_one_thread.result (λ bytes made. (
       c.in_ok-file.file.items,
@@ -60,8 +60,8 @@ returns-in-Stream-clause-made g c =
       },
     )) (rw c.deref-in-Stream.ensures.value at c.answer_by_one_thread.ensures.made)
 
-pub returns-in-Stream-clause-refused : goal.returns-in-Stream-clause-refused
-returns-in-Stream-clause-refused g c =
+pub returns-clause-refused : goal.returns-clause-refused
+returns-clause-refused g c =
     let records = c.in-Stream.records in
     if_err_more c.answer_by_one_thread.result (λ fault fails. inr (
       c.in_ok-file.file.items,
