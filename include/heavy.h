@@ -237,7 +237,8 @@ uint32_t heavy_update_records(struct heavy *heavy, const uint8_t *text, size_t t
                               struct heavy_fault *fault);
 
 /* Merges another value into this one: the summaries of two streams become that of both, and so do two tables. The other is as
-   it was, and has a handle of its own. It is refused as file 2: HEAVY_MIXED_KINDS or HEAVY_CANNOT_MERGE. */
+   it was. It has a handle of its own: the same handle twice is refused as NULL is. Another value is refused as file 2:
+   HEAVY_MIXED_KINDS or HEAVY_CANNOT_MERGE. */
 uint32_t heavy_merge(struct heavy *heavy, struct heavy *other, struct heavy_fault *fault);
 
 /* Merges the value of a saved file into this one. A file that is none is refused first, as file 2. */

@@ -130,8 +130,8 @@ def _loaded() -> ctypes.CDLL:
     library.heavy_whole_records.argtypes, library.heavy_whole_records.restype = [_READ, _SIZE, ctypes.c_uint8], _SIZE
     # To add an item takes less than to wait for other threads, so that call keeps Python's lock, where there is one. Python would
     # take longer to compare the arguments with their types than to add an item.
-    library.heavy_update = ctypes.PYFUNCTYPE(ctypes.c_uint32)(("heavy_update", library))
-    library.heavy_free = ctypes.PYFUNCTYPE(None, ctypes.c_void_p)(("heavy_free", library))
+    setattr(library, "heavy_update", ctypes.PYFUNCTYPE(ctypes.c_uint32)(("heavy_update", library)))
+    setattr(library, "heavy_free", ctypes.PYFUNCTYPE(None, ctypes.c_void_p)(("heavy_free", library)))
     return library
 
 

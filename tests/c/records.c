@@ -274,6 +274,7 @@ static void try_texts(void) {
         {{HEAVY_NO_COLUMN, 0, 0}, "the header has no such column"},
         {{HEAVY_WEIGHT_OUTSIDE, 0, 0}, "file 1: a key's weight in the input is outside its bounds"},
         {{HEAVY_BAD_LAYOUT, 0, 0}, "header, allow_zero and has_weight must be 0 or 1, decimals 0 to 9"},
+        {{HEAVY_NO_VALUE, 0, 0}, "a handle is NULL, or is lent twice"},
         {{77, 0, 0}, "unknown fault"},
         {{HEAVY_BAD_RECORD, 77, 1}, "unknown fault"},
         {{HEAVY_BAD_K, 1, 0}, "unknown fault"},

@@ -143,7 +143,7 @@ fn other_text(alloc: Global, fault: &Fault) -> Result<String, AllocError> {
         (26, 0, 0) => {
             "header, allow_zero and has_weight must be 0 or 1, decimals 0 to 9".to_string(alloc)
         }
-        (28, 0, 0) => "heavy is NULL".to_string(alloc),
+        (28, 0, 0) => "a handle is NULL, or is lent twice".to_string(alloc),
         _ => "unknown fault".to_string(alloc),
     }
 }

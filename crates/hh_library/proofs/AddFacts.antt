@@ -3,11 +3,11 @@ use Rattle.std.proofs.Common.{◌≡◌, ℕ, ◌+◌, ◌<◌, ◌≤◌, ◌�
 use Rattle.std.specs.List.{drop-map}
 use Rattle.std.proofs.lemmas.List.{drop_more, drop_all, length-map}
 use Rattle.hh_stream.specs.Weights.{Entry}
-use Rattle.hh_summaries.specs.Counters.{SummaryView, sketch_of, sketch_with}
+use Rattle.hh_summaries.specs.Counters.{sketch_of}
 use Rattle.hh_counters.specs.Laws.{SummariesFollowItems}
 use Rattle.hh_countmin.specs.Family.{Coefficients}
 use Rattle.hh_countmin.specs.Laws.{TablesFollowItems}
-use Rattle.hh_countmin.specs.Table.{TableView, grid_with, table_of}
+use Rattle.hh_countmin.specs.Table.{table_of}
 use Rattle.hh_saved.specs.Reading.{saved_of}
 use Rattle.hh_saved.specs.declared.saved.Saved.{Saved}
 use Rattle.hh_saved.specs.declared.format.Version.TheVariants as version

@@ -95,9 +95,10 @@ fn confirmed_items_text(
     counted_text(alloc, summary, share, &counts)
 }
 
-/// [`confirm_share`](crate::confirm_share) over items in memory, each a key and its weight, which
-/// are those of the summary's stream, and of any stream that has its keys' weights and its total.
-/// Without a share it is 1/(k + 1), the least for the summary's k. Keys are hashed by `hash`.
+/// Gives the rows of a saved summary's keys above a share of the total of items in memory, each a
+/// key and its weight. They are those of the summary's stream, or of any stream that has its keys'
+/// weights and its total. Without a share it is 1/(k + 1), the least for the summary's k. Keys are
+/// hashed by `hash`.
 ///
 /// The file is tested first ([`ToolError::BadFile`], as file 1), then its kind
 /// ([`ToolError::NotCounters`]), then the share ([`ToolError::BadThreshold`]), then the items in

@@ -6,7 +6,6 @@ ghost use Rattle.hh_commands.specs.Files.{Refuses};
 ghost use Rattle.hh_commands.specs.Table.{bad_table};
 
 use hh_commands::drawn_table;
-use hh_countmin::laws::tables_follow_items;
 use hh_countmin::{MAX_DEPTH, MAX_WIDTH};
 use hh_faults::ToolError;
 use hh_saved::Saved;
@@ -26,6 +25,5 @@ pub fn empty_table(alloc: Global, width: u64, depth: u64, seed: u64) -> Result<S
     if !in_range(width, MAX_WIDTH) {
         return Err(ToolError::BadWidth);
     }
-    tables_follow_items();
     Ok(Saved::Cells(drawn_table(alloc, width, depth, seed)?))
 }
