@@ -48,11 +48,7 @@ impl Stage {
 }
 
 /// Gives the records of `text`. If they have no weights, each weighs 1.
-fn records_of(
-    alloc: Global,
-    text: &[u8],
-    has_weights: bool,
-) -> Result<Records<&[u8]>, BenchFault> {
+fn records_of(alloc: Global, text: &[u8], has_weights: bool) -> Result<Records<&[u8]>, BenchFault> {
     let mut layout = Layout::plain(alloc);
     if !has_weights {
         given(layout.key.push(Column::Number(1)))?;
@@ -102,7 +98,11 @@ fn candidates_of(alloc: Global, text: &[u8], k: u64) -> Result<Candidates, Bench
 fn read_bytes(rt: &HostRuntime) -> Result<(), BenchFault> {
     let mut input = rt.stdin();
     let mut buffer = given(vec![in rt.alloc(); 0u8; 65_536])?;
-    while given(input.read(&mut buffer))? > 0 {}
+    for _ in 0..u64::MAX {
+        if given(input.read(&mut buffer))? == 0 {
+            break;
+        }
+    }
     Ok(())
 }
 
