@@ -38,7 +38,7 @@ use hh_json::members;
 use hh_library::{add_items, summary_bytes};
 use hh_pieces::{ReadAt, SourceRecords, ends_outside_quotes, read_stream};
 use hh_pool::{OpenGate, Options, Plan, RunError, analyse};
-use hh_records::Format;
+use hh_records::{Column, Format};
 use hh_reports::run_report;
 use hh_rows::{Form, Output, ReportOptions, Sink, converted, report_text};
 use hh_saved::{Saved, read};
@@ -121,7 +121,7 @@ pub fn client_and_bytes(alloc: Global, line: &[u8]) -> Result<ByteRecord, AllocE
 {
     let mut scratch = Scratch::new(alloc);
     let mut row = ByteRecord::new(alloc);
-    let names = [Vec::from_slice(alloc, b"client")?];
+    let names = [Column::Name(Vec::from_slice(alloc, b"client")?)];
     members(alloc, line, &names, Some(b"bytes"), &mut scratch, &mut row)?;
     Ok(row)
 }
