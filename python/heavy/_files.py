@@ -214,6 +214,10 @@ class _File:
         (3, 5)
         """
         held = bytes_of_key(key)
+        with self._lock.mutex:
+            value = self._value
+            if isinstance(value, Growing):
+                return value.ask(held)
         return _asked_of(self.to_bytes(), held)
 
     def ask_many(self, keys: Iterable[Key]) -> List[Tuple[int, int]]:
@@ -623,8 +627,13 @@ class Summary(_File, Mapping[Any, Interval]):
             held = bytes_of_key(key)
         except ValueError:  # no key has so many bytes
             return default
+        with self._lock.mutex:
+            value = self._value
+            if isinstance(value, Growing) and value.is_asked(self._rows[0]):
+                low, high = value.ask(held)
+                return Interval(low, high) if low else default
         saved = self.to_bytes()
-        if self._rows[0] is saved or self._asked is saved:
+        if isinstance(value, Growing) or self._rows[0] is saved or self._asked is saved:
             row = self._by_key(saved).get(held)
             return default if row is None else Interval(row.low, row.high)
         self._told(saved)
