@@ -128,8 +128,8 @@ fn run(
     }
 }
 
-/// Measures a `stage` over standard input, whose text is read before, but for `Bytes`: the time that
-/// all its records take, in nanoseconds.
+/// Measures a `stage` over standard input, whose text is read before, but for `Bytes`. It gives the
+/// time that all records take, in nanoseconds.
 pub fn stage_time(rt: &HostRuntime, stage: Stage, k: u64) -> Result<u128, BenchFault> {
     if !in_range(k, MAX_K) {
         return Err(BenchFault::Usage);
