@@ -1,5 +1,5 @@
-//! What the calls have in common that pass over items or records by the summary of a handle: each is
-//! the call of the library on the value's saved file.
+//! What the calls have in common that pass over items or records by the summary of a handle: each
+//! is the call of the library on the value's saved file.
 
 ghost use Rattle.std.specs.Prelude.{◌≡◌, ◌≢◌, ℕ, List, Option, None, IfErr, IfOk, IsOk};
 ghost use Rattle.std.specs.Prelude.{MatchResult};

@@ -286,8 +286,8 @@ impl<'a> FileCall for CondenseRecords<'a> {
 }
 
 /// Gives what `proved_condense_items` gives, of the records of a text, which may be a part of those
-/// that were summarised. The layout is tested first, then the value's kind, then the records, of any
-/// total, and then that no key is above its bound.
+/// that were summarised. The layout is tested first, then the value's kind, then the records, of
+/// any total, and then that no key is above its bound.
 #[unsafe(no_mangle)]
 pub extern "C" fn proved_condense_records(
     alloc: Global,

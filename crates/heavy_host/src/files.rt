@@ -46,7 +46,7 @@ fn push_file(files: &mut Vec<Vec<u8>>, file: Result<Vec<u8>, ToolError>) -> Resu
     }
 }
 
-/// The bytes of files, in order. Where one can't be read, the error is [`ToolError::FileFault`] with
+/// The bytes of files, in order. If one can't be read, the error is [`ToolError::FileFault`] with
 /// its number, from 1 on.
 pub fn read_files<F: FileSource>(source: &F, names: &[Vec<u8>]) -> Result<Vec<Vec<u8>>, ToolError>
     ensures read { IfOk result (λ files. AreRead (F.gives source.now)
