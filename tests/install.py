@@ -139,12 +139,14 @@ class Copy:
         arguments = Path("crates", "heavy_arguments", "src", "arguments.rt")
         shutil.copy(programs.TOP / arguments, self.top / arguments)
         (self.kit / "c").mkdir()
-        sources = {"calls": "".join(f"int {name}(void) {{ return 7; }}\n" for name in (*header.calls(), "hidden"))}
+        proved = [name.replace("heavy_", "proved_") for name in header.calls()]
+        sources = {"calls": "".join(f"int {name}(void) {{ return 7; }}\n" for name in (*proved, "hidden"))}
         sources["c/liblibc_c"] = "int helper(void) { return 8; }\n"
         for name, text in sources.items():
             (self.kit / f"{name}.c").write_text(text)
-            subprocess.run(["cc", "-fPIC", "-c", f"{name}.c", "-o", f"{name}.o"], cwd=self.kit, check=True)
-            subprocess.run(["ar", "rcs", f"{name}.a", f"{name}.o"], cwd=self.kit, check=True)
+            # not calls.o, which bin/library.bash puts beside it
+            subprocess.run(["cc", "-fPIC", "-c", f"{name}.c", "-o", f"{name}_stand_in.o"], cwd=self.kit, check=True)
+            subprocess.run(["ar", "rcs", f"{name}.a", f"{name}_stand_in.o"], cwd=self.kit, check=True)
 
     def add_tests(self) -> None:
         """What bin/test needs: a kit with archives, and scripts that tell their names and words, of which one names the library
