@@ -16,8 +16,8 @@ use crate::usage_report::{UsageReport, usage_report_of};
 use clap::ArgMatches;
 use heavy_arguments::arguments::{
     ALLOW_ZERO, BAD_AS, DECIMALS, DELIMITER, DEPTH, EXPLAIN, GREATEST, HEADER, JSON, K, KEY, KEYS,
-    LINES, METHOD, NAMES, NO_QUOTES, OUTPUT, PIECES, PREFIX, PROGRESS, RECORDS, SAVED_FILES,
-    SEED, SHARE, SQUEEZE, THRESHOLD, TOP, TREE, UNTIL, WEIGHT, WIDTH,
+    LINES, METHOD, NAMES, NO_QUOTES, OUTPUT, PIECES, PREFIX, PROGRESS, RECORDS, SAVED_FILES, SEED,
+    SHARE, SQUEEZE, THRESHOLD, TOP, TREE, UNTIL, WEIGHT, WIDTH,
 };
 use heavy_arguments::{Named, Pass, Verb, command_line};
 use heavy_host::{WordSource, bytes_of, read_words, texts_of};
