@@ -64,6 +64,19 @@ impl Verb {
         matches!(self, Verb::Report | Verb::Top | Verb::Pass(_))
     }
 
+    /// Gives the passes in which `workers` workers read the files of records: 0 if they read none,
+    /// as they don't for a report `by_plan`. A report needs two, or one if its keys are few, and so
+    /// do the greatest keys. Where their counters grow they need a third, which is not counted.
+    pub fn passes(self, by_plan: bool, workers: u64) -> u64 {
+        match self {
+            Verb::Report if by_plan => 0,
+            Verb::Report | Verb::Top => 2,
+            Verb::Pass(Pass::Summarise) => u64::from(workers != 1),
+            Verb::Pass(_) => 1,
+            Verb::Merge | Verb::Ask | Verb::List | Verb::Describe => 0,
+        }
+    }
+
     /// Gives how many workers read: the number that was given, or else the default.
     pub fn workers(self, found: &ArgMatches) -> u64
         ensures { IsNumber (found_of found.now) WORKERS.name.now (2 ^ 64)

@@ -19,7 +19,7 @@ use heavy_arguments::arguments::{
     LINES, METHOD, NAMES, NO_QUOTES, OUTPUT, PIECES, PREFIX, PROGRESS, RECORDS, SAVED_FILES, SEED,
     SHARE, SQUEEZE, THRESHOLD, TOP, TREE, UNTIL, WEIGHT, WIDTH,
 };
-use heavy_arguments::{Named, Pass, Verb, command_line};
+use heavy_arguments::{Named, Verb, command_line};
 use heavy_host::{WordSource, bytes_of, read_words, texts_of};
 use hh_records::{Format, LayoutWords, delimiter_of};
 use hh_rows::{Form, Output, ReportOptions, RowOptions, Share, Tree};
@@ -87,17 +87,9 @@ impl Asked {
         }
     }
 
-    /// Gives the passes in which workers read the files of records, by the command line alone: 0 if
-    /// they read none. A report needs two, or one if its keys are few, and so do the greatest keys.
-    /// Where their counters grow they need a third, which is not counted.
+    /// Gives the passes in which workers read the files of records, by the command line alone.
     pub fn passes(&self) -> u64 {
-        match self.verb {
-            Verb::Report if self.by_plan => 0,
-            Verb::Report | Verb::Top => 2,
-            Verb::Pass(Pass::Summarise) => u64::from(self.options.workers != 1),
-            Verb::Pass(_) => 1,
-            Verb::Merge | Verb::Ask | Verb::List | Verb::Describe => 0,
-        }
+        self.verb.passes(self.by_plan, self.options.workers)
     }
 }
 
