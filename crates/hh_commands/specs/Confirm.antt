@@ -79,11 +79,6 @@ abbrev pub ConfirmRowsRefused : Bool → Share → List ℕ → Known → ToolEr
 ConfirmRowsRefused refuses share file known e =
     RefusedFrom file (λ s. CompareAboveRefused refuses (threshold_of s.k share) s known) e
 
--- what a refusal tells where a share may be no threshold: that first, and then of the records
-abbrev pub CountAboveRefused : Option (ℕ × ℕ) → SummaryView → Known → ToolError → Type 0
-CountAboveRefused None s known e = e ≡ tool.BadThreshold
-CountAboveRefused (Some t) s known e = CountRefused s known e
-
 -- what a refusal tells of what was compared: both totals, where they differ, and else a key outside its bounds
 abbrev pub TellsCompared : List ℕ → Known → Comparison → ToolError → Type 0
 TellsCompared file known compared tool.TotalDiffers =

@@ -17,7 +17,3 @@ entry_row d s e = bounds_row d e.0 (e.1, e.1 + slack s.counters s.total s.k)
 abbrev pub ListsRows : ℕ → List ℕ → List ℕ → Type 0
 ListsRows d file rows =
     (s : SummaryView) × HoldsSummary file s × (rows ≡ flat_map (entry_row d s) (by_rank s.counters))
-
--- the file holds a summary, and these are the rows of its keys, in whole numbers
-abbrev pub ListsKeys : List ℕ → List ℕ → Type 0
-ListsKeys file rows = ListsRows 0 file rows

@@ -1,19 +1,15 @@
 -- The greatest keys of files that are read twice.
-use Rattle.std.proofs.Common.{◌≡◌, ◌∙◌, ℕ, ◌/◌, ⊎_elim, inl, inr, Bool, List, Option, Some, None, Result, Ok, Err, sym, ap, subst}
+use Rattle.std.proofs.Common.{◌≡◌, ℕ, ◌/◌, ⊎_elim, inl, inr, Bool, List, Option, Some, None, Result, Ok, Err, sym, subst}
 use Rattle.std.specs.Prelude.{IfErr, true}
-use Rattle.hh_stream.specs.Ranges.{in_range}
-use Rattle.hh_stream.specs.Weights.{Bytes, Entry, total_of}
+use Rattle.hh_stream.specs.Weights.{Bytes, Entry}
 use Rattle.hh_summaries.specs.Report.{weights_at}
 use Rattle.hh_tally.specs.Tallies.{AreBounds}
 use Rattle.hh_tally.specs.declared.room.Room.{Room}
 use Rattle.hh_top.specs.Top.{GreatestRefused, IsTopFault, IsUncertain, ShortlistView, stand_out}
-use Rattle.hh_workers.specs.Workers.{max_workers}
 use Rattle.hh_records.specs.Refusals.{RecordsRefused}
 use Rattle.hh_records.specs.Streams.{Known, Reading}
-use Rattle.hh_rows.specs.Printed.{printed_rows}
-use Rattle.hh_rows.specs.declared.printed.RowOptions.{RowOptions}
 use Rattle.hh_files.specs.FilePasses.{TalliesRecords, WeighsRecords}
-use Rattle.hh_files.specs.TopFiles.{FindsTop, IsSharedRoom, ListRefused, PrintsTop, TellsTop, TopFilesRefused, TopRefused, counted_in, shared_room, whole_room}
+use Rattle.hh_files.specs.TopFiles.{IsSharedRoom, ListRefused, TellsTop, TopRefused, counted_in, shared_room, whole_room}
 use Rattle.hh_files.specs.declared.topping.TopOptions.{TopOptions}
 use Rattle.hh_faults.specs.declared.error.ToolError.{ToolError}
 use Rattle.hh_faults.specs.declared.error.ToolError.TheVariants as tool
@@ -22,11 +18,6 @@ use Rattle.hh_faults.specs.declared.error.ToolError.TheVariants as tool
 pub records_refuse : (n k : ℕ) (known : Known) (e : ToolError) → RecordsRefused known e → TopRefused n k known e
 records_refuse n k known (tool.TopUncertain certain most) h = absurd h
 records_refuse n k known e h = h
-
--- by whatever shortlist
-pub records_refuse_list : (list : ShortlistView) (known : Known) (e : ToolError) → RecordsRefused known e
-    → ListRefused list known e
-records_refuse_list list known e h = λ k _. records_refuse list.n k known e h
 
 -- what a shortlist of this memory refuses is decided by the memory
 pub shared_refused : (options : TopOptions) (list : ShortlistView) (known : Known) (e : ToolError) → list.n ≡ options.n
@@ -72,16 +63,3 @@ module _ (names : Bool) (list : ShortlistView) (room : Room) (ks : List Bytes) (
       → IfErr r (ListRefused list (record { names_columns = names; reading = o }))
   greatest_refused (Ok a) o made weighs kind lossy h sure = tt
   greatest_refused (Err e) o made weighs kind lossy h sure = top_refused o e made weighs kind lossy h sure
-
--- the rows of what was found are those of the greatest keys
-pub rows_of_top : (r : RowOptions) (n : ℕ) (names : Bool) (o : Option (Option Reading)) (total : ℕ) (keys : List Entry)
-    (text : List ℕ) → text ≡ printed_rows total r keys → FindsTop n (record { names_columns = names; reading = o }) total keys
-    → PrintsTop r n (record { names_columns = names; reading = o }) text
-rows_of_top r n names None total keys text is h = tt
-rows_of_top r n names (Some k) total keys text is (xs, read, sum, are) =
-    (xs, read, is ∙ ap (λ (t : ℕ). printed_rows t r keys) sum ∙ ap (printed_rows (total_of xs) r) are)
-
--- the workers were tested before
-pub behind_workers : (options : TopOptions) (known : Known) (e : ToolError) → in_range options.workers max_workers ≡ true
-    → TopRefused options.n (counted_in options.memory) known e → TopFilesRefused options known e
-behind_workers options known e few h = rw few h

@@ -4,7 +4,7 @@ use Rattle.std.specs.Prelude.{IfErr, OnOk}
 use Rattle.std.specs.List.Sorted.{IsStrictlySortedBy}
 use Rattle.std.proofs.lemmas.Bool.Decides.{leb_tells}
 use Rattle.std.proofs.lemmas.List.{take_all, take_more}
-use Rattle.std.proofs.lemmas.List.Elements.{All-push, All-from_recursion}
+use Rattle.std.proofs.lemmas.List.Elements.{All-push}
 use Rattle.std.proofs.lemmas.List.Sums.{sum_by_more_le}
 use Rattle.hh_stream.specs.Weights.{Entry, max_total, total_of, weight_of}
 use Rattle.hh_summaries.specs.Counters.{Counters, Fits, IsCounters, SummaryView, add_at, cut, join, lower, merge_of, sketch_of, sketch_with, tally}
@@ -138,10 +138,6 @@ pub all_seen : (k : ℕ) (c : Counters) (i : ℕ) (m : SummaryView) → length c
 all_seen k c i m all so_far = so_far ∙ ap (monitor_of k) (take_all i c all)
 
 module _ (s : SummaryView) (fits : Fits s.k s.total s.counters) where
-  -- its entries weigh something
-  pub seen_entries : HasSeen (monitor_of s.k s.counters)
-  seen_entries = (s.counters, All-from_recursion (λ (e : Entry). 0 < e.1) s.counters fits.entries.positive, refl)
-
   -- their monitor is translated to it, where what the total has besides is put after it
   pub entries_translated : (n : ℕ)
       → heavier (n + (s.total - total_of s.counters)) (translation_of (monitor_of s.k s.counters)) ≡ heavier n s

@@ -1,12 +1,12 @@
 -- The records of a text without quotes, or where a quote is a byte as any other, line by line.
 use Rattle.std.proofs.Common.{◌≡◌, ◌⊎◌, ◌∷◌, ◌++◌, ◌∙◌, inl, inr, ℕ, List, [], get_or, map, Bool, true, false, Option, Some, None, refl, sym, ap, append-nil, append_assoc}
-use Rattle.std.specs.Prelude.{◌==◌, ◌&&◌, ◌||◌, not, option_and_then, option_map, if◌then◌else◌}
+use Rattle.std.specs.Prelude.{◌==◌, ◌&&◌, not, option_and_then, option_map, if◌then◌else◌}
 use Rattle.std.specs.Option.{option_zip}
 use Rattle.std.specs.List.{AllByRecursion, join_with_byte, onto_first, slice_split}
 use Rattle.std.proofs.lemmas.List.Splits.{join_with_byte-slice_split}
 use Rattle.std.proofs.lemmas.Simd.{map-map}
 use Rattle.std.proofs.lemmas.Bool.{eqb-true, false≢true}
-use Rattle.csv.specs.Machine.{after_end, carriage_return, line_feed, step}
+use Rattle.csv.specs.Machine.{after_end, step}
 use Rattle.csv.specs.declared.parser.Config.{Config}
 use Rattle.csv.specs.declared.parser.State.{State}
 use Rattle.csv.specs.declared.parser.State.TheVariants as st
@@ -18,7 +18,7 @@ use Rattle.hh_records.proofs.FormatFacts.{with-whole}
 use Rattle.hh_records.specs.declared.format.Format.{Format}
 use Rattle.hh_records.specs.declared.format.Format.TheVariants as format
 use Rattle.hh_pieces.specs.Laws.{UnquotedTextsAreSplit}
-use Rattle.hh_pieces.specs.Lines.{CutsWithin, IsUnquoted, cut_of, filled, is_line_end, is_separator, key_parts, line_fields, line_parts, parts_in_columns}
+use Rattle.hh_pieces.specs.Lines.{IsUnquoted, cut_of, filled, is_line_end, is_separator, key_parts, line_fields, line_parts, parts_in_columns}
 use Rattle.hh_pieces.specs.declared.lines.FieldPlaces.{FieldPlaces}
 use Rattle.hh_pieces.specs.declared.lines.LineCut.TheVariants as cut
 use Rattle.hh_records.specs.Streams.{Fields, Parts}
@@ -215,23 +215,6 @@ module _ (names : Names) where
         ≡ map (line_parts part (cut_of f d)) lines
     lines-cut f d (inl csv) lines = rw csv (map-map (parts_by None part) (line_fields d) lines)
     lines-cut f d (inr unquoted) lines = rw unquoted (map-map (parts_by None part) (line_fields d) lines)
-
--- ---- how lines are cut
--- at a separator none ends
-separator-differs : (d : ℕ) → is_separator d ≡ true → (d == line_feed) ≡ false
-separator-differs d h = by (d == carriage_return) (d == line_feed) (separator-ends-none d h)
-  where
-    by : (a b : Bool) → (a || b) ≡ false → b ≡ false
-    by a false e = refl
-    by true true e = absurd (false≢true (sym e))
-    by false true e = absurd (false≢true (sym e))
-
-pub cut-within : (f : Format) (d : ℕ) → is_separator (byte_between f d) ≡ true → CutsWithin (cut_of f d)
-cut-within format.Csv d h = separator-differs d h
-cut-within format.Unquoted d h = separator-differs d h
-cut-within format.Squeezed d h = separator-differs d h
-cut-within format.Lines d h = tt
-cut-within format.Json d h = tt
 
 -- ---- parts of keys
 -- the whole field

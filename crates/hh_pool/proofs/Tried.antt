@@ -1,5 +1,5 @@
 -- One piece more, and what two workers have made together.
-use Rattle.std.proofs.Common.{◌≡◌, inr, ℕ, zero, suc, ◌+◌, ◌*◌, ◌<◌, ◌≤◌, List, [], ◌∷◌, ◌++◌, length, get_or, map, replicate, refl, sym, ap, ◌∙◌, subst, arith, slice_get, Some, sum_by}
+use Rattle.std.proofs.Common.{◌≡◌, inr, ℕ, zero, suc, ◌+◌, ◌*◌, ◌<◌, ◌≤◌, List, [], ◌∷◌, ◌++◌, length, get_or, map, refl, sym, ap, ◌∙◌, subst, arith, slice_get, Some, sum_by}
 use Rattle.std.proofs.lemmas.List.{map-append}
 use Rattle.std.proofs.lemmas.Option.{get_or_from_slice_get, slice_get-map}
 use Rattle.std.specs.Option.{option_map}
@@ -106,11 +106,6 @@ pub taken_too_much : (refuses : ℕ → Type 0) (pieces : List (List Entry)) (on
     → max_total < weight + more → MayRefuse refuses pieces
 taken_too_much refuses pieces one other weight more p q apart high =
     inr (omega (arith, high, p.total, q.total, joined_total pieces one other p.distinct q.distinct apart))
-
--- no items have no weights
-pub no_weights : (keys : List Bytes) → replicate (length keys) 0 ≡ weights_at keys []
-no_weights [] = refl
-no_weights (k ∷ ks) = ap (λ ns. 0 ∷ ns) (no_weights ks)
 
 -- keys before any item
 pub none_counted : (keys : List Bytes) (counts : Count) → counts ≡ count_of keys [] → AreCounted keys [] counts

@@ -66,10 +66,6 @@ whole-key part (Some p) e = ap (λ (k : List ℕ). Some (k, p.1)) (whole-part pa
 pub whole-parts : (part : Part) (r : Fields) → is_whole_field part ≡ true → parts_by None part r ≡ parts_of r
 whole-parts part r e = whole-key part (parts_of r) e
 
-pub whole-rows : (part : Part) (rows : List Fields) → is_whole_field part ≡ true → map (parts_by None part) rows ≡ map parts_of rows
-whole-rows part [] e = refl
-whole-rows part (r ∷ rows) e = rw (whole-parts part r e) (ap (λ (ps : List Parts). parts_of r ∷ ps) (whole-rows part rows e))
-
 -- a field more, of which a part counts
 pub with-part-push : (part : Part) (fs : Fields) (f : List ℕ) → with_part part (fs ++ f ∷ []) ≡ fs ++ part_of part f ∷ []
 unfolding with_part

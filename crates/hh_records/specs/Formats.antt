@@ -1,5 +1,5 @@
 -- How the fields of a record follow from what csv reads, and which part of a field is the key.
-use Rattle.std.specs.Prelude.{ℕ, Bool, true, false, List, [], ◌∷◌, map, not, take, Option, Some, None, option_map}
+use Rattle.std.specs.Prelude.{ℕ, Bool, true, false, List, [], ◌∷◌, not, take, Option, Some, None}
 use Rattle.std.specs.List.{filter, position_or_len}
 use Rattle.bstr.specs.Bytes.{is_in}
 use Rattle.bstr.specs.Owned as bytes
