@@ -1,28 +1,20 @@
 -- Keys, tested one after the other.
-use Rattle.std.proofs.Common.{◌≡◌, ℕ, zero, suc, ◌+◌, ◌-◌, ◌^◌, ◌<◌, ◌≤◌, ◌∙◌, Bool, true, false, cond, List, [], ◌∷◌, length, map, drop, get_or, Option, Some, None, inl, inr, sym, refl, ap, arith, subst}
+use Rattle.std.proofs.Common.{◌≡◌, ℕ, zero, suc, ◌+◌, ◌-◌, ◌^◌, ◌<◌, ◌≤◌, ◌∙◌, List, [], ◌∷◌, length, map, drop, get_or, Option, Some, None, inl, inr, sym, refl, ap, arith, subst}
 use Rattle.std.proofs.lemmas.Bool.Decides.{eqb_tells, leb_tells}
 use Rattle.std.proofs.lemmas.List.{drop_all, get_or-map, length-map}
-use Rattle.std.proofs.lemmas.List.Sums.{sum_by-le-sum_by}
 use Rattle.std.proofs.Math.Nat.{div-le_self}
-use Rattle.hh_stream.specs.Weights.{Bytes, Entry, at_key, max_key_len, max_total, same_key, total_of, weight_of}
+use Rattle.hh_stream.specs.Weights.{Bytes, Entry, max_key_len, max_total, total_of, weight_of}
 use Rattle.hh_summaries.specs.Counters.{slack}
+use Rattle.hh_summaries.proofs.Weights.{weight_of-le-total_of}
 use Rattle.hh_commands.proofs.FileFacts.{drop_contents}
 use Rattle.hh_faults.specs.declared.error.ToolError.{ToolError}
 use Rattle.hh_commands.specs.Ask.{bad_key, key_fault, or_else}
-
-at_most : (b : Bool) (n : ℕ) → cond b n 0 ≤ n
-at_most true n = omega arith
-at_most false n = omega arith
-
--- a counter is at most the sum of all
-counter-le-sum : (x : Bytes) (c : List Entry) → weight_of x c ≤ total_of c
-counter-le-sum x c = sum_by-le-sum_by (at_key x) (λ (e : Entry). e.1) c (λ e. at_most (same_key x e.0) e.1)
 
 -- a counter and the slack are together at most the total
 pub bounds-fit : (k n : ℕ) (c : List Entry) (x : Bytes) → total_of c ≤ n → n ≤ max_total
     → weight_of x c + slack c n k < 2 ^ 64
 bounds-fit k n c x within bounded =
-    omega (arith, within, bounded, counter-le-sum x c, div-le_self (n - total_of c) (k + 1))
+    omega (arith, within, bounded, weight_of-le-total_of x c, div-le_self (n - total_of c) (k + 1))
 
 -- the length of a word that is a key
 abbrev pub IsKeyLength : Bytes → Type 0

@@ -12,10 +12,9 @@ use Rattle.std.proofs.lemmas.List.Quantifiers.{position-Some}
 use Rattle.std.proofs.lemmas.Map.Keys.{Less-from_sorted}
 use Rattle.std.proofs.lemmas.Map.Views.{list_any-from_Contains}
 use Rattle.indexmap.specs.IndexSet.{insert_key}
-use Rattle.std.proofs.lemmas.List.Sums.{sum_by-le-sum_by}
 use Rattle.hh_stream.specs.Weights.{Bytes, Entry, key_cmp, same_key, at_key, weight_of, total_of}
 use Rattle.hh_summaries.specs.Report.{weights_at, counts_with}
-use Rattle.hh_summaries.proofs.Weights.{at_differ, same_exact, key_total, key_self, flipped, weight_of-append, weight_of-cons, at_other}
+use Rattle.hh_summaries.proofs.Weights.{at_differ, same_exact, key_total, key_self, flipped, weight_of-append, weight_of-cons, weight_of-le-total_of, at_other}
 
 -- counted from 0, each key has its weight
 pub counted_from_zero : (ks : List Bytes) (xs : List Entry)
@@ -140,10 +139,6 @@ pub count_miss : (ks : List Bytes) (now : List ℕ) (x : Bytes) (w : ℕ) → le
 count_miss ks now x w l h = sym (counted_miss ks now (x, w) l (none_of_them ks x h))
 
 -- ---- no number grows too large
--- no key weighs more than all items
-pub weight_of-le-total_of : (x : Bytes) (xs : List Entry) → weight_of x xs ≤ total_of xs
-weight_of-le-total_of x xs = sum_by-le-sum_by (at_key x) (λ (e : Entry). e.1) xs (λ e. grind arith)
-
 -- no number grows by more than the total of the items
 pub counted-le : (ks : List Bytes) (xs : List Entry) (ns : List ℕ) (p : ℕ) → length ns ≡ length ks
     → get_or (counts_with ks xs ns) p 0 ≤ get_or ns p 0 + total_of xs

@@ -22,10 +22,9 @@ use Rattle.hh_stream.specs.Weights.{Bytes, Entry, key_cmp, same_key, at_key, wei
 use Rattle.hh_summaries.specs.Counters.{Counters, IsCounters, add_at, tally, least_counter}
 use Rattle.hh_counters.specs.SpaceSaving.{least_of, without, first_with, key_to_drop, taken_over, step, IsMonitor}
 use Rattle.hh_counters.specs.Buckets.{Buckets, by_counter, is_in, AreBoundedBy, BoundCounters, IsLinked, IsTakenIn, IsFreshFirst}
-use Rattle.hh_summaries.proofs.Weights.{Distinct, weight_of-lookup, by_key, flipped, key_exact, key_total, same_exact, same_sym, same_self, weight_of-add_at, weight_of-tally, rising-tally, positive-tally, same_counters}
+use Rattle.hh_summaries.proofs.Weights.{Distinct, weight_of-lookup, by_key, flipped, key_exact, key_total, same_exact, same_sym, same_self, weight_of-add_at, weight_of-le-total_of, weight_of-tally, rising-tally, positive-tally, same_counters}
 use Rattle.hh_counters.proofs.Stepping.{least_of_free, at_least_all, least_counter-le, least_counter-ge, counters-add_at, counters-without, weight_of-without, length-add_at_new}
 use Rattle.hh_counters.proofs.Runs.{Positive, first_with_first}
-use Rattle.hh_counters.proofs.Counting.{weight_of-le-total_of}
 use Rattle.hh_counters.proofs.TakingOver.{without-add_at, monitor_step, monitor_nothing}
 
 -- ---- the view of an index: its tally

@@ -9,8 +9,8 @@ use Rattle.std.proofs.lemmas.List.Sums.{sum_by_more_le}
 use Rattle.hh_stream.specs.Weights.{Entry, max_total, total_of, weight_of}
 use Rattle.hh_summaries.specs.Counters.{Counters, Fits, IsCounters, SummaryView, add_at, cut, join, lower, merge_of, sketch_of, sketch_with, tally}
 use Rattle.hh_summaries.proofs.Level.{level_few}
-use Rattle.hh_summaries.proofs.Summaries.{lower_none}
-use Rattle.hh_summaries.proofs.Weights.{by_add_at, counters-tally, same_counters, weight_of-tally}
+use Rattle.hh_summaries.proofs.Summaries.{length-add_at, lower_none}
+use Rattle.hh_summaries.proofs.Weights.{tally_of_counters}
 use Rattle.hh_counters.specs.Laws.{MonitorsFollowItems, SummariesFollowItems}
 use Rattle.hh_commands.specs.Files.{Refuses, file_of}
 use Rattle.hh_commands.specs.Merge.{merge_saved, merged_from}
@@ -71,20 +71,12 @@ module _ (form : Form) (n : ℕ) (m new : SummaryView) (e : Entry) (is : form �
       (subst HasSeen (sym made) (seen_more monitors m e some as_monitor.0), omega (arith, here, total))
 
 -- ---- counters that there is room for
-tally_is : (c : Counters) → IsCounters c → tally c ≡ c
-tally_is c h = same_counters (tally c) c (counters-tally c h.positive) h (λ x. weight_of-tally x c)
-
 cut_none : (c : Counters) (k : ℕ) → IsCounters c → length c ≤ k → cut c k ≡ c
 cut_none c k h few = ap (λ t. lower t c) (level_few c k few) ∙ lower_none c h
 
 -- joined to none, they are as they were
 pub joined_to_none : (c : Counters) (k : ℕ) → IsCounters c → length c ≤ k → join [] c k ≡ c
-joined_to_none c k h few = ap (λ (d : Counters). cut d k) (tally_is c h) ∙ cut_none c k h few
-
-length-add_at : (c : Counters) (e : Entry) → length (add_at c e) ≤ length c + 1
-length-add_at [] e = omega arith
-length-add_at (d ∷ c) e = by_add_at (λ b. length b ≤ length (d ∷ c) + 1) c d e (λ _. omega arith) (λ _. omega arith)
-    (λ _. omega (arith, length-add_at c e))
+joined_to_none c k h few = ap (λ (d : Counters). cut d k) (tally_of_counters c h) ∙ cut_none c k h few
 
 fits_in : (m n : ℕ) → m ≤ n → nat_le m n ≡ true
 fits_in m n le = elim (leb_tells m n) [
@@ -108,7 +100,7 @@ steps_with_room (e ∷ xs) s k few =
 
 counted : (c : Counters) (k : ℕ) → IsCounters c → length c ≤ k → space_saving c k ≡ c
 unfolding tally
-counted c k h few = steps_with_room c [] k (omega (arith, few)) ∙ tally_is c h
+counted c k h few = steps_with_room c [] k (omega (arith, few)) ∙ tally_of_counters c h
 
 translated_none : (c : Counters) (k : ℕ) → IsCounters c → length c ≤ k → translate c k ≡ c
 translated_none c k h few =

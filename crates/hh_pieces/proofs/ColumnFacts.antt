@@ -8,18 +8,11 @@ use Rattle.csv.specs.Records.{field_at}
 use Rattle.hh_records.specs.Formats.{with_part}
 use Rattle.hh_records.specs.Layouts.{every, fields_at, key_of}
 use Rattle.hh_records.specs.Streams.{Fields, Parts}
-use Rattle.hh_records.proofs.FormatFacts.{with-whole}
+use Rattle.hh_records.proofs.FormatFacts.{at-first, with-whole}
 use Rattle.hh_pieces.specs.Lines.{AreAll, AreBetween, EndsLine, EndsRun, fields_left, is_field_end, line_fields, parts_in_columns}
 use Rattle.hh_pieces.proofs.FieldFacts.{feed-behind, feed-there, first-part, last-field, not-first, second-of}
 
 -- ---- the field at a place
-at-first : (r : Fields) (i : ℕ) (f : List ℕ) (rest : Fields) → drop i r ≡ f ∷ rest → field_at r i ≡ Some f
-unfolding field_at
-at-first [] zero f rest e = cc e
-at-first [] (suc i) f rest e = cc e
-at-first (g ∷ r) zero f rest e = cc e
-at-first (g ∷ r) (suc i) f rest e = at-first r i f rest e
-
 at-past : (r : Fields) (i : ℕ) → length r ≤ i → field_at r i ≡ None
 unfolding field_at
 at-past [] i l = refl

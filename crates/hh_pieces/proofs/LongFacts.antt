@@ -15,6 +15,7 @@ use Rattle.csv.proofs.ReadFacts.{Tracks, feeds-push, keeps-read, prepend-nil, tr
 use Rattle.hh_records.specs.Layouts.{configured}
 use Rattle.hh_records.specs.Streams.{Fields}
 use Rattle.hh_pieces.proofs.CutFacts.{no-records, runs, runs-all, runs-next}
+use Rattle.hh_pieces.proofs.PlaceFacts.{strip-drop}
 use Rattle.hh_pieces.specs.Lines.{is_line_end}
 use Rattle.hh_pieces.specs.Pieces.{is_outside, state_after}
 use Rattle.hh_pieces.specs.Quotes.{mark_len}
@@ -97,17 +98,6 @@ marked-front (a ∷ b ∷ c ∷ held) rest l = by (is_bom a b c)
     by true = refl
     by false = refl
 
-marked-whole : (held : List ℕ) → strip_bom held ≡ drop (mark_len held) held
-unfolding strip_bom
-marked-whole [] = refl
-marked-whole (a ∷ []) = refl
-marked-whole (a ∷ b ∷ []) = refl
-marked-whole (a ∷ b ∷ c ∷ held) = by (is_bom a b c)
-  where
-    by : (m : Bool) → (if m then held else a ∷ b ∷ c ∷ held) ≡ drop (if m then 3 else 0) (a ∷ b ∷ c ∷ held)
-    by true = refl
-    by false = refl
-
 pub mark-removed : (p0 k : Option (List ℕ)) (held : List ℕ) → Keeps p0 (prepend_known held k) → 3 ≤ length held
     → Keeps (option_map strip_bom p0) (prepend_known (drop (mark_len held) held) k)
 mark-removed None k held h l = tt
@@ -120,7 +110,7 @@ mark-removed-last None k held h end = tt
 mark-removed-last (Some xs) None held h end = h
 mark-removed-last (Some xs) (Some rest) held h end =
     let all : held ≡ xs = sym (append-nil held) ∙ ap (λ r. held ++ r) (sym end) ∙ h in
-    rw end (append-nil (drop (mark_len held) held) ∙ sym (marked-whole held) ∙ ap strip_bom all)
+    rw end (append-nil (drop (mark_len held) held) ∙ sym (strip-drop held) ∙ ap strip_bom all)
 
 -- more bytes are held
 pub keeps-more : (p0 k k2 : Option (List ℕ)) (held more : List ℕ) → Keeps p0 (prepend_known held k) → Consumes k k2 more

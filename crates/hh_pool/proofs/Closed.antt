@@ -12,6 +12,7 @@ use Rattle.hh_stream.specs.Weights.{Bytes, Entry, at_key, weight_of, total_of, m
 use Rattle.hh_stream.specs.Cuttings.{whole_of}
 use Rattle.hh_summaries.specs.Counters.{SummaryView, sketch_of}
 use Rattle.hh_summaries.specs.Report.{weights_at}
+use Rattle.hh_summaries.proofs.Weights.{weight_of-le-total_of}
 use Rattle.hh_countmin.specs.Family.{Coefficients}
 use Rattle.hh_countmin.specs.Table.{at_cell, cell_sum, table_of}
 use Rattle.hh_countmin.specs.Laws.{CellsAreCellSums}
@@ -28,11 +29,7 @@ part : (b : Bool) (n : ℕ) → cond b n 0 ≤ n
 part true n = omega arith
 part false n = omega arith
 
--- no key weighs more than all
-weight_of-le : (x : Bytes) (xs : List Entry) → weight_of x xs ≤ total_of xs
-weight_of-le x xs = sum_by-le-sum_by (at_key x) (λ (e : Entry). e.1) xs (λ e. part _ e.1)
-
--- nor does a cell
+-- no cell has more than all
 cell_sum-le : (family : Coefficients) (width r c : ℕ) (xs : List Entry) → cell_sum family width r c xs ≤ total_of xs
 cell_sum-le family width r c xs = sum_by-le-sum_by (at_cell family width r c) (λ (e : Entry). e.1) xs (λ e. part _ e.1)
 
@@ -90,7 +87,7 @@ closed_weights pieces xs keys seat values whole low p distinct all long each =
     p.adds i key at ∙ (sum_by-all_items (at_key key) pieces seat.claims distinct all ∙ ap (weight_of key) whole) in
     let fits = low (omega (arith, within, long)) in
     each i (omega arith)
-    ∙ (exact (weight_of key xs) (cell_total i seat.adds) all_items (omega (arith, fits, weight_of-le key xs))
+    ∙ (exact (weight_of key xs) (cell_total i seat.adds) all_items (omega (arith, fits, weight_of-le-total_of key xs))
     ∙ sym (weight_at_number keys xs i key at)))
 
 -- the weights in each piece are those in all items

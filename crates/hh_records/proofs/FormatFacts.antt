@@ -115,7 +115,7 @@ squeezed-more (g ∷ r) (suc i) f e =
     by false more = ap (λ (fs : Fields). g ∷ fs) more
 
 -- ---- the fields of a record, as its iterator gives them
-at-first : (r : Fields) (i : ℕ) (y : List ℕ) (ys : Fields) → drop i r ≡ y ∷ ys → field_at r i ≡ Some y
+pub at-first : (r : Fields) (i : ℕ) (y : List ℕ) (ys : Fields) → drop i r ≡ y ∷ ys → field_at r i ≡ Some y
 unfolding field_at
 at-first [] zero y ys e = cc e
 at-first [] (suc i) y ys e = cc e

@@ -1,18 +1,11 @@
 -- The members of an object, one after the other.
-use Rattle.std.proofs.Common.{◌≡◌, ◌∙◌, ℕ, zero, suc, ◌+◌, ◌<◌, List, [], ◌∷◌, ◌++◌, length, map, drop, get_or, Some, None, Bor, refl, sym, ap, arith, append_assoc, append-nil}
+use Rattle.std.proofs.Common.{◌≡◌, ◌∙◌, ℕ, zero, suc, ◌+◌, ◌<◌, List, [], ◌∷◌, ◌++◌, length, map, drop, get_or, Some, None, Bor, refl, sym, ap, append_assoc, append-nil}
 use Rattle.std.specs.Prelude.{slice_get}
 use Rattle.std.specs.List.{flat_map, zip}
 use Rattle.std.proofs.lemmas.List.{drop-map, drop_more}
 use Rattle.csv.specs.Records.{field_at}
+use Rattle.hh_records.proofs.LayoutFacts.{field-drop}
 use Rattle.hh_rows.specs.Json.{member_text, members_text, next_member, string_text}
-
--- a field that is there stands first in what begins with it
-field-drop : (r : List (List ℕ)) (i : ℕ) (f : List ℕ) → Some f ≡ field_at r i → drop i r ≡ f ∷ drop (i + 1) r
-unfolding field_at
-field-drop [] i f e = cc e
-field-drop (g ∷ r) zero f e = cc e
-field-drop (g ∷ r) (suc i) f e =
-    let next : suc (i + 1) ≡ suc i + 1 = omega arith in rw (← next) (field-drop r i f e)
 
 -- where there is no field, nothing is left
 field-none : (r : List (List ℕ)) (i : ℕ) → None ≡ field_at r i → drop i r ≡ []

@@ -225,7 +225,7 @@ join_room c e k h p few =
     ∙ lower_none (add_at c e)
     (record { rising = rising-add_at c e h.rising; positive = positive-add_at c e h.positive p })
 
-length-add_at : (c : Counters) (e : Entry) → length (add_at c e) ≤ length c + 1
+pub length-add_at : (c : Counters) (e : Entry) → length (add_at c e) ≤ length c + 1
 length-add_at [] e = omega arith
 length-add_at (d ∷ c) e = by_add_at (λ b. length b ≤ length (d ∷ c) + 1) c d e (λ _. omega arith) (λ _. omega arith)
     (λ _. omega (arith, length-add_at c e))

@@ -1,5 +1,5 @@
 -- Weights of lists, and what adding an entry does to counters.
-use Rattle.std.proofs.Common.{◌≡◌, ℕ, ◌+◌, ◌<◌, Bool, true, false, cond, List, Option, Some, None, zero, suc, subst, [], ◌∷◌, ◌++◌, Ordering, Less, Equal, Greater, is_eq, refl, sym, ap, ◌∙◌, add-zero, arith}
+use Rattle.std.proofs.Common.{◌≡◌, ℕ, ◌+◌, ◌<◌, ◌≤◌, Bool, true, false, cond, List, Option, Some, None, zero, suc, subst, [], ◌∷◌, ◌++◌, Ordering, Less, Equal, Greater, is_eq, refl, sym, ap, ◌∙◌, add-zero, arith}
 use Rattle.std.specs.Prelude.{fold, unwrap_or, IfSome, Contains}
 use Rattle.std.specs.List.{AllByRecursion, IsDistinct}
 use Rattle.std.specs.List.Sorted.{IsStrictlySortedBy}
@@ -15,7 +15,7 @@ use Rattle.std.proofs.lemmas.Map.Views.{IfSome-lookup, lookup-from_Contains}
 use Rattle.std.proofs.lemmas.Bool.{cond_both}
 use Rattle.std.proofs.lemmas.List.{get_or-map}
 use Rattle.std.proofs.lemmas.List.Elements.{All-contains, All-from_recursion}
-use Rattle.std.proofs.lemmas.List.Sums.{sum_by-cons, sum_by-append, fold-append}
+use Rattle.std.proofs.lemmas.List.Sums.{sum_by-cons, sum_by-append, sum_by-le-sum_by, fold-append}
 use Rattle.hh_stream.specs.Weights.{Bytes, Entry, key_cmp, same_key, at_key, weight_of, total_of}
 use Rattle.hh_summaries.specs.Counters.{Counters, IsCounters, add_at, tally, plus}
 
@@ -85,6 +85,10 @@ weight_of-append x xs ys = sum_by-append (at_key x) xs ys
 -- and the total
 pub total_of-append : (xs ys : List Entry) → total_of (xs ++ ys) ≡ total_of xs + total_of ys
 total_of-append xs ys = sum_by-append (λ e. e.1) xs ys
+
+-- no key weighs more than all
+pub weight_of-le-total_of : (x : Bytes) (xs : List Entry) → weight_of x xs ≤ total_of xs
+weight_of-le-total_of x xs = sum_by-le-sum_by (at_key x) (λ (e : Entry). e.1) xs (λ e. grind arith)
 
 -- a sum where a test passes, or 0, is the sum of both so taken
 pub at_both : (b : Bool) (m n : ℕ) → cond b (m + n) 0 ≡ cond b m 0 + cond b n 0
@@ -322,7 +326,7 @@ same_counters c d h g same = same_rising (on_total (λ (e : Entry). e.0) key_tot
         subst (λ n. Contains d (e.0, n)) at (in_from_number e.0 d g.rising (omega (arith, at, some)))
 
 -- ---- adding entries to counters
-tally_of_counters : (c : Counters) → IsCounters c → tally c ≡ c
+pub tally_of_counters : (c : Counters) → IsCounters c → tally c ≡ c
 tally_of_counters c h = same_counters (tally c) c (counters-tally c h.positive) h (λ x. weight_of-tally x c)
 
 -- a sum of counters, entry by entry

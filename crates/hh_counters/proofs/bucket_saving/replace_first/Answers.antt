@@ -6,7 +6,7 @@ use Rattle.indexmap.specs.IndexMap.{Updates as UpdatesIndex}
 use Rattle.hh_stream.specs.Weights.{Bytes, same_key}
 use Rattle.hh_counters.specs.Buckets.{by_counter}
 use Rattle.hh_summaries.specs.Counters.{tally}
-use Rattle.hh_counters.proofs.Counting.{weight_of-le-total_of}
+use Rattle.hh_summaries.proofs.Weights.{weight_of-le-total_of}
 use Rattle.hh_counters.proofs.Linked.{first_popped, replaced}
 use Rattle.hh_counters.proofs.bucket_saving.replace_first.Goals as goal
 
