@@ -14,14 +14,16 @@ pub use hh_counters::Heavy;
 pub use hh_faults::{
     BadRecordCause, KeyCause, MergeCause, TextError, ToolError, Totals, TreeFault, WriteFault,
 };
-pub use hh_files::{condense_files, confirm_files, report_files, summarise_files, table_files};
+pub use hh_files::{
+    condense_files, confirm_files, report_files, report_rows, run_report, summarise_files,
+    table_files,
+};
 pub use hh_library::{
     add_items, ask_bytes, condense_bytes, confirm, confirm_bytes, summary_bytes, table_bytes,
 };
 pub use hh_pieces::{GrowingFile, ReadAt, Records, SourceRecords, read_stream};
 pub use hh_pool::MAX_WORKERS;
 pub use hh_records::{Column, Layout, LayoutWords, layout_of};
-pub use hh_reports::{report_rows, run_report};
 pub use hh_rows::{
     Out, ReportOptions, RowOptions, Share, Sink, SinkFault, Tree, put, report_text, write_report,
 };

@@ -24,8 +24,7 @@ use Rattle.hh_commands.specs.Summarise.{word_of}
 use Rattle.hh_commands.specs.declared.commands.summarise.Method.{Method}
 use Rattle.hh_commands.specs.declared.compared.Bounds.TheVariants as bounds
 use Rattle.hh_commands.specs.declared.compared.Outside.{Outside}
-use Rattle.hh_reports.specs.Report.{AreOptions, PrintsRows}
-use Rattle.hh_files.specs.ReportFiles.{PrintsFileRows}
+use Rattle.hh_files.specs.Report.{AreOptions, PrintsFileRows, PrintsRows}
 use Rattle.hh_files.specs.SummaryFiles.{SavesSummary}
 use Rattle.hh_files.specs.TopFiles.{PrintsTop}
 use Rattle.heavy_host.specs.Files.{AreRead}

@@ -20,7 +20,7 @@ use Rattle.hh_commands.specs.Merge.{merged_files}
 use Rattle.hh_commands.specs.Summarise.{word_of}
 use Rattle.hh_commands.specs.declared.commands.summarise.Method.{Method}
 use Rattle.hh_commands.specs.declared.compared.Outside.{Outside}
-use Rattle.hh_reports.specs.Report.{StartRefused, bad_option}
+use Rattle.hh_files.specs.Report.{StartRefused, bad_option}
 use Rattle.hh_files.specs.FilePasses.{CondenseFilesRefused, ConfirmFilesRefused}
 use Rattle.hh_files.specs.SummaryFiles.{bad_summary_of_files}
 use Rattle.hh_files.specs.TableFiles.{bad_table_of_files}

@@ -1,6 +1,6 @@
 //! A caller of each library, as its page CALLING.md shows it.
 
-ghost use Rattle.std.specs.Prelude.{◌≡◌, ◌+◌, ◌<◌, ◌≤◌, ◌↔◌, ◌∷◌, [], List, Ok, Some, false, IsTrue, IfOk, IfSome, OnOk, codes, map};
+ghost use Rattle.std.specs.Prelude.{◌≡◌, ◌+◌, ◌<◌, ◌≤◌, ◌↔◌, ◌∷◌, [], List, Ok, Some, IsTrue, IfOk, IfSome, OnOk, codes, map};
 ghost use Rattle.hh_faults.specs.Faults.{text_fault};
 ghost use Rattle.hh_faults.specs.Status.{status_of};
 ghost use Rattle.hh_stream.specs.Weights.{Entry, max_total, total_of, weight_of};
@@ -25,7 +25,6 @@ ghost use Rattle.hh_workers.specs.PlanTexts.{SpellsTree};
 ghost use Rattle.hh_commands.specs.Describe.{description};
 ghost use Rattle.hh_commands.specs.Records.{SavesStream};
 ghost use Rattle.hh_library.specs.Add.{IsAdded};
-ghost use Rattle.hh_reports.specs.Report.{IsReported};
 
 use csv::ByteRecord;
 use hh_commands::{Method, describe_file};
@@ -39,8 +38,7 @@ use hh_library::{add_items, summary_bytes};
 use hh_pieces::{ReadAt, SourceRecords, ends_outside_quotes, read_stream};
 use hh_pool::{OpenGate, Options, Plan, RunError, analyse};
 use hh_records::{Column, Format};
-use hh_reports::run_report;
-use hh_rows::{Form, Output, ReportOptions, Sink, converted, report_text};
+use hh_rows::{Form, Output, converted, report_text};
 use hh_saved::{Saved, read};
 use hh_shared::{SharedSums, SumSeat};
 use hh_stream::{Cutting, Key, PushRefused, Stream};
@@ -211,21 +209,6 @@ pub fn with_item(alloc: Global, file: &[u8], key: &[u8], weight: u64) -> Result<
     ensures { IfOk result (λ bytes. IsAdded file.now ((key.now, weight) ∷ []) bytes.items) }
 {
     add_items(alloc, file, &[(key, weight)])
-}
-
-/// Writes the report of a reader's records.
-pub fn report_of<T: Threads + Wait + Sync, R: Read + Drop, S: Sink>(
-    rt: &T,
-    alloc: Global,
-    options: &ReportOptions,
-    reader: R,
-    sink: &mut S,
-) -> Result<(), ToolError>
-    requires { S.has_failed sink.old ≡ false }
-    ensures { OnOk result (IsReported options.now (text_known (R.remaining reader))
-        (S.taken sink.old) (S.taken sink.new)) }
-{
-    run_report(rt, alloc, options, reader, sink)
 }
 
 /// The saved table of the records of files, with 4 rows of 1,024 cells, by two workers.

@@ -6,7 +6,7 @@ use Rattle.std.proofs.lemmas.List.Sums.{sum_by-append}
 use Rattle.hh_stream.specs.Cuttings.{whole_of}
 use Rattle.hh_stream.specs.Taking.{Takes}
 use Rattle.hh_stream.specs.Weights.{Entry, max_total, total_of}
-use Rattle.hh_files.specs.ReportFiles.{items_or_too_many, lists_of}
+use Rattle.hh_files.specs.FilePieces.{items_or_too_many, lists_of}
 
 -- where the pieces are not too many, each can be read by itself
 pub each_is_read : (pieces : List (Option (List Entry))) → total_of (whole_of (map items_or_too_many pieces)) ≤ max_total

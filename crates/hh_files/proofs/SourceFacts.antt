@@ -10,7 +10,7 @@ use Rattle.hh_pieces.specs.CutTexts.{AreReadByPieces}
 use Rattle.hh_records.specs.Layouts.{stream_with}
 use Rattle.hh_records.specs.Taking.{GathersRecords}
 use Rattle.hh_records.specs.declared.layout.Layout.{Layout}
-use Rattle.hh_files.specs.ReportFiles.{items_or_too_many, lists_of}
+use Rattle.hh_files.specs.FilePieces.{items_or_too_many, lists_of}
 use Rattle.hh_files.proofs.FilePieceFacts.{each_is_read}
 
 -- 1 for an item that weighs nothing

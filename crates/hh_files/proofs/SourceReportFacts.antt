@@ -11,9 +11,8 @@ use Rattle.hh_records.specs.Streams.{Known, Reading}
 use Rattle.hh_rows.specs.Thresholds.{threshold_of}
 use Rattle.hh_rows.specs.declared.printed.RowOptions.{RowOptions}
 use Rattle.hh_records.specs.Refusals.{RecordsRefused}
-use Rattle.hh_reports.specs.Report.{AreOptions, ReportsKeys, StartRefused}
 use Rattle.hh_files.specs.FilePasses.{IfKnown, TalliesRecords, WeighsRecords}
-use Rattle.hh_files.specs.ReportFiles.{FindsKeys, PrintsFileRows}
+use Rattle.hh_files.specs.Report.{AreOptions, FindsKeys, PrintsFileRows, ReportsKeys, StartRefused}
 use Rattle.hh_rows.specs.declared.report_options.ReportOptions.{ReportOptions}
 use Rattle.hh_faults.specs.declared.error.ToolError.{ToolError}
 use Rattle.hh_faults.specs.declared.error.ToolError.TheVariants as tool

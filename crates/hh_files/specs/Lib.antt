@@ -1,5 +1,6 @@
 pub mod FilePasses
-pub mod ReportFiles
+pub mod FilePieces
+pub mod Report
 pub mod TableFiles
 pub mod SummaryFiles
 pub mod TopFiles

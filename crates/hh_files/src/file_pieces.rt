@@ -1,7 +1,7 @@
 //! Files in pieces, as workers read them.
 
 ghost use Rattle.std.specs.Prelude.{◌≡◌, IsSome, length};
-ghost use Rattle.hh_files.specs.ReportFiles.{lists_of};
+ghost use Rattle.hh_files.specs.FilePieces.{lists_of};
 
 use hh_pieces::{CutFiles, ReadAt};
 use hh_stream::{PieceFault, TakeItems};

@@ -1,7 +1,9 @@
 //! Files of any size, which workers read in pieces in threads of their own: exact reports of them,
-//! and the passes that make a summary or a table, confirm a summary and condense records.
+//! and the passes that make a summary or a table, confirm a summary and condense records; and
+//! reports by a plan, of records that are kept.
 #![tactic(auto)]
 
+mod by_plan;
 mod by_workers;
 mod condensing;
 mod confirming;
@@ -13,6 +15,7 @@ mod summarising;
 mod tabulating;
 mod topping;
 
+pub use by_plan::{check_options, report_rows, run_report};
 pub use condensing::condense_files;
 pub use confirming::confirm_files;
 pub use reporting::report_files;

@@ -11,16 +11,15 @@ ghost use Rattle.hh_stream.specs.Weights.{Entry, key_cmp, total_of};
 ghost use Rattle.hh_pieces.specs.Sources.{sources_known};
 ghost use Rattle.hh_records.specs.Refusals.{RecordsRefused};
 ghost use Rattle.hh_workers.specs.Workers.{max_workers};
-ghost use Rattle.hh_reports.specs.Report.{AreOptions, ReportsKeys};
-ghost use Rattle.hh_reports.specs.Report.{StartRefused, bad_option};
 ghost use Rattle.hh_files.specs.FilePasses.{IfKnown, TalliesRecords, WeighsRecords};
-ghost use Rattle.hh_files.specs.ReportFiles.{FindsKeys, PrintsFileRows};
+ghost use Rattle.hh_files.specs.Report.{AreOptions, FindsKeys, PrintsFileRows, ReportsKeys};
+ghost use Rattle.hh_files.specs.Report.{StartRefused, bad_option};
 
+use crate::by_plan::prepare;
 use crate::file_passes::{tally_of_sources, weights_in};
 use hh_counters::{Candidates, Heavy};
 use hh_faults::ToolError;
 use hh_pieces::{ReadAt, SourceRecords};
-use hh_reports::prepare;
 use hh_rows::{ReportOptions, RowOptions, printed_text};
 use hh_stream::{Key, TakeItems};
 use hh_tally::{Room, Tally};
@@ -121,7 +120,7 @@ fn reported_of_files<T: Threads + Wait + Sync, S: ReadAt + Sync>(
         (StartRefused options.now (sources_known S.bytes records.entry)) }
     ensures bad_option { IfSome (bad_option options.now) (λ fault. result ≡ Err fault) }
 {
-    match prepare(alloc, options, records.layout.hash) {
+    match prepare(alloc, options) {
         Ok(prepared) => {
             let (p, q) = (prepared.p, prepared.q);
             keys_of_sources(rt, alloc, records, options.k, options.workers, p, q)
@@ -130,7 +129,7 @@ fn reported_of_files<T: Threads + Wait + Sync, S: ReadAt + Sync>(
     }
 }
 
-/// Makes the rows of the report of files of any size, as [`report_rows`](hh_reports::report_rows)
+/// Makes the rows of the report of files of any size, as [`report_rows`](crate::report_rows)
 /// does, or of other bytes that can be read at any place, such as those of a pipe that were kept.
 /// No item is kept: workers read the files in pieces, through a buffer each, and tally their items
 /// (Misra and Gries 1982, in batches as Anderson et al. 2017). If the keys are few, one pass is

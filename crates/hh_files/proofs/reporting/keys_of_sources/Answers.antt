@@ -1,7 +1,7 @@
 use Rattle.std.proofs.Common.{◌≡◌, ◌∙◌, ◌+◌, ◌/◌, ℕ, ap, arith, subst, sym}
 use Rattle.hh_tally.specs.declared.room.Room.{Room}
 use Rattle.hh_pieces.specs.Sources.{sources_known}
-use Rattle.hh_files.specs.ReportFiles.{FindsKeys}
+use Rattle.hh_files.specs.Report.{FindsKeys}
 use Rattle.hh_files.proofs.reporting.keys_of_sources.Goals as goal
 
 pub heavy_by-requires-clause-enough : goal.heavy_by-requires-clause-enough

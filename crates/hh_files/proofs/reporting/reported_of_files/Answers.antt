@@ -1,6 +1,6 @@
 use Rattle.hh_pieces.specs.Sources.{sources_known}
-use Rattle.hh_reports.specs.Report.{bad_option}
-use Rattle.hh_reports.proofs.ReportFacts.{fault_is}
+use Rattle.hh_files.specs.Report.{bad_option}
+use Rattle.hh_files.proofs.ReportFacts.{fault_is}
 use Rattle.hh_files.proofs.SourceReportFacts.{keys_refused, keys_reported}
 use Rattle.hh_files.proofs.reporting.reported_of_files.Goals as goal
 

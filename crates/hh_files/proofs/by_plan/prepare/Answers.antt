@@ -1,6 +1,6 @@
 use Rattle.std.proofs.lemmas.Result.{err_from_is_err_and}
-use Rattle.hh_reports.proofs.ReportFacts.{no_plan}
-use Rattle.hh_reports.proofs.report.prepare.Goals as goal
+use Rattle.hh_files.proofs.ReportFacts.{no_plan}
+use Rattle.hh_files.proofs.by_plan.prepare.Goals as goal
 
 pub returns-in_err-plan-clause-refused : goal.returns-in_err-plan-clause-refused
 returns-in_err-plan-clause-refused c =

@@ -5,7 +5,7 @@ use Rattle.std.specs.Io.KnownBytes.{Appends}
 use Rattle.hh_workers.specs.PlanTexts.{PlanRefused}
 use Rattle.hh_rows.specs.Sinks.{TextNotWritten}
 use Rattle.hh_records.specs.Streams.{Known}
-use Rattle.hh_reports.specs.Report.{AreOptions, IsReported, PlanNotMade, ReportRefused, ReportsRows, StartRefused, bad_option}
+use Rattle.hh_files.specs.Report.{AreOptions, IsReported, PlanNotMade, ReportRefused, ReportsRows, StartRefused, bad_option}
 use Rattle.hh_rows.specs.declared.report_options.ReportOptions.{ReportOptions}
 use Rattle.hh_rows.specs.declared.report_options.Tree.TheVariants as tree
 use Rattle.hh_faults.specs.declared.error.ToolError.{ToolError}

@@ -1,7 +1,7 @@
 use Rattle.std.proofs.Common.{◌∷◌, ◌++◌, [], List, refl}
 use Rattle.hh_stream.specs.Weights.{Entry}
 use Rattle.hh_records.proofs.TakenFacts.{taken_all}
-use Rattle.hh_reports.proofs.report.stream_of.Goals as goal
+use Rattle.hh_files.proofs.by_plan.stream_of.Goals as goal
 
 pub returns-clause-stream : goal.returns-clause-stream
 returns-clause-stream g c =

@@ -1,6 +1,6 @@
 use Rattle.std.proofs.lemmas.Result.{IfErr-weaker}
-use Rattle.hh_reports.proofs.ReportFacts.{text_unmade}
-use Rattle.hh_reports.proofs.report.plan_of.Goals as goal
+use Rattle.hh_files.proofs.ReportFacts.{text_unmade}
+use Rattle.hh_files.proofs.by_plan.plan_of.Goals as goal
 
 pub returns-in-Text-clause-refused : goal.returns-in-Text-clause-refused
 returns-in-Text-clause-refused c =

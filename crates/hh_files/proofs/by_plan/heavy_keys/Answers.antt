@@ -1,5 +1,5 @@
 use Rattle.std.proofs.Common.{rules}
-use Rattle.hh_reports.proofs.report.heavy_keys.Goals as goal
+use Rattle.hh_files.proofs.by_plan.heavy_keys.Goals as goal
 
 pub returns-in-Ok : goal.returns-in-Ok
 returns-in-Ok c = search rules

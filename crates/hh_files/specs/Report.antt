@@ -21,7 +21,8 @@ use Rattle.hh_records.specs.Refusals.{RecordsRefused}
 use Rattle.hh_faults.specs.declared.error.ToolError.{ToolError}
 use Rattle.hh_faults.specs.declared.error.ToolError.TheVariants as tool
 use Rattle.hh_faults.specs.declared.error.TreeFault.{TreeFault}
-use Rattle.hh_reports.specs.declared.report.Prepared.{Prepared}
+use Rattle.hh_files.specs.declared.by_plan.Prepared.{Prepared}
+use Rattle.hh_files.specs.FilePasses.{IfKnown}
 use Rattle.hh_rows.specs.declared.report_options.ReportOptions.{ReportOptions}
 use Rattle.hh_rows.specs.declared.report_options.Tree.{Tree}
 use Rattle.hh_rows.specs.declared.report_options.Tree.TheVariants as tree
@@ -95,12 +96,11 @@ abbrev pub AreKeysOf : Known → ℕ → ℕ → ℕ → List Entry → Type 0
 AreKeysOf known p q total keys =
     (xs : List Entry) × ReadsAs known (Ok xs) × (total ≡ total_of xs) × (keys ≡ heavy xs p q)
 
--- the options pass all tests, and by these settings for their threshold a report is made
+-- the options pass all tests, and p/q is their threshold
 pub record IsPrepared (o : ReportOptions) (prepared : Prepared) : Type 0 where
   pub options : AreOptions o
   pub threshold : threshold_of o.k o.threshold ≡ Some (prepared.p, prepared.q)
   pub share : IsShare prepared.p prepared.q
-  pub settings : prepared.settings ≡ settings_of o prepared.p prepared.q
 
 -- these are the rows of the keys of a report
 abbrev pub ReportsRows : ReportOptions → Known → List ℕ → Type 0
@@ -137,3 +137,12 @@ abbrev pub ReportRefused : ReportOptions
 ReportRefused o known old new (tool.WriteFault n) =
     AreOptions o × (rows : List ℕ) × ReportsRows o known rows × TakesFirst old new rows n
 ReportRefused o known old new e = StartRefused o known e × Keeps old new
+
+-- ---- of files, which are read more than once: where no contract knows their bytes, nothing is said of the keys
+-- where the records' bytes are known, these are their total and their keys above p/q
+abbrev pub FindsKeys : Known → ℕ → ℕ → ℕ → List Entry → Type 0
+FindsKeys known p q total keys = IfKnown known (AreKeysOf known p q total keys)
+
+-- where the records' bytes are known, these are the rows of a report of them
+abbrev pub PrintsFileRows : RowOptions → ReportOptions → Known → List ℕ → Type 0
+PrintsFileRows r o known rows = IfKnown known (PrintsRows r o known rows)

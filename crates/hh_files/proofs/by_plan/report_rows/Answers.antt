@@ -1,5 +1,5 @@
 use Rattle.std.proofs.Common.{refl}
-use Rattle.hh_reports.proofs.report.report_rows.Goals as goal
+use Rattle.hh_files.proofs.by_plan.report_rows.Goals as goal
 
 pub returns-clause-rows : goal.returns-clause-rows
 returns-clause-rows g c =

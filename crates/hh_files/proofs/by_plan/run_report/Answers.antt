@@ -2,9 +2,9 @@ use Rattle.std.proofs.Common.{IfErr, ap, subst}
 use Rattle.std.specs.Prelude.{OnOk}
 use Rattle.hh_pieces.specs.Texts.{records_known}
 use Rattle.hh_rows.specs.Rows.{rows_of}
-use Rattle.hh_reports.specs.Report.{IsReported, ReportRefused}
-use Rattle.hh_reports.proofs.ReportFacts.{rows_not_written, rows_written}
-use Rattle.hh_reports.proofs.report.run_report.Goals as goal
+use Rattle.hh_files.specs.Report.{IsReported, ReportRefused}
+use Rattle.hh_files.proofs.ReportFacts.{rows_not_written, rows_written}
+use Rattle.hh_files.proofs.by_plan.run_report.Goals as goal
 
 pub returns-clause-reported : goal.returns-clause-reported
 returns-clause-reported g c =

@@ -1,4 +1,4 @@
-//! A report from a reader to a sink.
+//! Reports by a plan: the records are kept as a stream, which workers analyse.
 
 ghost use Rattle.std.specs.Prelude.{◌≡◌, List, false, true, length, IfOk, IfErr, IfSome, OnOk, MatchResult, Err, None, Ok, Some};
 ghost use Rattle.hh_stream.specs.Cuttings.{max_pieces};
@@ -10,10 +10,10 @@ ghost use Rattle.hh_pieces.specs.Texts.{records_known};
 ghost use Rattle.hh_records.specs.Streams.{Known, ReadsAs, text_known};
 ghost use Rattle.hh_rows.specs.Thresholds.{threshold_of};
 ghost use Rattle.hh_records.specs.Refusals.{RecordsRefused};
-ghost use Rattle.hh_reports.specs.Report.{AreKeysOf, AreOptions, IsOptionFault, IsReported, Names};
-ghost use Rattle.hh_reports.specs.Report.{PrintsRows, ReportRefused};
-ghost use Rattle.hh_reports.specs.Report.{IsPrepared, PlanNotMade, ReportsKeys, StartRefused, bad_option};
-ghost use Rattle.hh_reports.specs.Report.{settings_of};
+ghost use Rattle.hh_files.specs.Report.{AreKeysOf, AreOptions, IsOptionFault, IsReported, Names};
+ghost use Rattle.hh_files.specs.Report.{PrintsRows, ReportRefused};
+ghost use Rattle.hh_files.specs.Report.{IsPrepared, PlanNotMade, ReportsKeys, StartRefused, bad_option};
+ghost use Rattle.hh_files.specs.Report.{settings_of};
 ghost use Rattle.hh_rows.specs.Sinks.{failed_by};
 
 use hh_counters::{Heavy, MAX_K};
@@ -118,35 +118,16 @@ fn stream_of<R: Read + Drop>(alloc: Global, records: Records<R>) -> Result<Strea
     Ok(read_records(alloc, records, Stream::new(alloc))?)
 }
 
-/// The total of records and their heavy keys, by the stream that they are, which is kept.
-fn keys_of_stream<T: Threads + Wait + Sync, R: Read + Drop>(
-    rt: &T,
-    alloc: Global,
-    records: Records<R>,
-    plan: &Plan,
-    settings: &Options,
-) -> Result<(u64, Vec<Heavy>), ToolError>
-    ensures keys { IfOk result (λ keys. AreKeysOf (records_known R.remaining records)
-        settings.now.p settings.now.q keys.0 keys.1.items) }
-    ensures refused { IfErr result (RecordsRefused (records_known R.remaining records)) }
-{
-    let stream = stream_of(alloc, records)?;
-    let keys = heavy_keys(rt, alloc, &stream, plan, settings)?;
-    Ok((stream.total(), keys))
-}
-
-/// What a report is made by: the plan and the settings.
+/// What a report is made by: the plan, and the threshold p/q.
 #[derive(Drop)]
-pub struct Prepared {
-    pub plan: Plan,
-    pub settings: Options,
-    /// The threshold is p/q.
-    pub p: u64,
-    pub q: u64,
+pub(crate) struct Prepared {
+    pub(crate) plan: Plan,
+    pub(crate) p: u64,
+    pub(crate) q: u64,
 }
 
-/// Tests the options, before anything is read. An analysis hashes keys by `hash`.
-pub fn prepare(alloc: Global, options: &ReportOptions, hash: KeyHash) -> Result<Prepared, ToolError>
+/// Tests the options, before anything is read.
+pub(crate) fn prepare(alloc: Global, options: &ReportOptions) -> Result<Prepared, ToolError>
     ensures prepared { IfOk result (IsPrepared options.now) }
     ensures refused { IfErr result (λ fault.
         (known : Known) → StartRefused options.now known fault) }
@@ -154,13 +135,27 @@ pub fn prepare(alloc: Global, options: &ReportOptions, hash: KeyHash) -> Result<
 {
     let (p, q) = check_options(options)?;
     let plan = plan_of(alloc, &options.tree, options.pieces as usize)?;
-    let settings = settings_of(alloc, options, p, q, hash)?;
-    Ok(Prepared {
-        plan,
-        settings,
-        p,
-        q,
-    })
+    Ok(Prepared { plan, p, q })
+}
+
+/// The total of records and their heavy keys, by the stream that they are, which is kept.
+fn keys_of_stream<T: Threads + Wait + Sync, R: Read + Drop>(
+    rt: &T,
+    alloc: Global,
+    options: &ReportOptions,
+    prepared: &Prepared,
+    records: Records<R>,
+) -> Result<(u64, Vec<Heavy>), ToolError>
+    requires { IsPrepared options.now prepared.now }
+    ensures keys { IfOk result (λ keys. AreKeysOf (records_known R.remaining records)
+        prepared.now.p prepared.now.q keys.0 keys.1.items) }
+    ensures refused { IfErr result (RecordsRefused (records_known R.remaining records)) }
+{
+    let (p, q) = (prepared.p, prepared.q);
+    let settings = settings_of(alloc, options, p, q, records.layout.hash)?;
+    let stream = stream_of(alloc, records)?;
+    let keys = heavy_keys(rt, alloc, &stream, &prepared.plan, &settings)?;
+    Ok((stream.total(), keys))
 }
 
 /// The total of some records, and the keys that a report of them has.
@@ -177,13 +172,13 @@ fn reported<T: Threads + Wait + Sync, R: Read + Drop>(
         (StartRefused options.now (records_known R.remaining records)) }
     ensures bad_option { IfSome (bad_option options.now) (λ fault. result ≡ Err fault) }
 {
-    match prepare(alloc, options, records.layout.hash) {
-        Ok(prepared) => keys_of_stream(rt, alloc, records, &prepared.plan, &prepared.settings),
+    match prepare(alloc, options) {
+        Ok(prepared) => keys_of_stream(rt, alloc, options, &prepared, records),
         Err(fault) => Err(fault),
     }
 }
 
-/// Reads records as [`read_stream`](crate::read_stream) does, and writes the report of their
+/// Reads records as [`read_stream`](hh_pieces::read_stream) does, and writes the report of their
 /// stream: exactly the keys whose weight is more than the threshold's share of the total, with
 /// their true weights, by falling weight and then by rising key. The stream is kept and cut evenly
 /// into pieces, which workers summarise in threads of their own; the summaries are merged by the
