@@ -1,13 +1,9 @@
 -- Counts after some more items.
-use Rattle.std.proofs.Common.{◌≡◌, ◌<◌, ◌≤◌, ◌+◌, ◌++◌, ◌∷◌, ◌∙◌, ℕ, List, [], cond, length, take, drop, get_or, true, false, append-nil, ap, sym, arith, All, filter, nat_lt, replicate, zip}
-use Rattle.std.proofs.lemmas.Bool.Decides.{nat_tests}
+use Rattle.std.proofs.Common.{◌≡◌, ◌<◌, ◌≤◌, ◌+◌, ◌++◌, ◌∙◌, ℕ, List, [], length, take, drop, get_or, ap, sym, arith, All, replicate}
 use Rattle.std.proofs.lemmas.List.{ext_get_or, get_or-map, length-map}
-use Rattle.std.proofs.lemmas.List.Elements.{filter_more}
-use Rattle.std.proofs.lemmas.Slice.Zip.{get_or-zip, length-zip}
 use Rattle.std.proofs.Math.Seq.{take-append_seam}
 use Rattle.std.proofs.lemmas.List.Sums.{sum_by-append}
 use Rattle.hh_stream.specs.Weights.{Bytes, Entry, at_key, total_of, weight_of}
-use Rattle.hh_summaries.specs.Counters.{exceeds}
 use Rattle.hh_counters.specs.Laws.{CountsAddUp, CountsStayWithin}
 use Rattle.hh_summaries.specs.Report.{counts_with, weights_at}
 use Rattle.hh_counters.specs.Counting.{Count, count_of, count_with}
@@ -69,29 +65,3 @@ counts-join one other ks xs ys sums long each p q =
       sum_by-append (λ (e : Entry). e.1) xs ys,
     ) in
     λ j. record { keys = ap (λ (c : Count). c.keys) p j; weights = weights j; total = total j }
-
--- the keys that came among the first i, and then the next one
-module _ (ks : List Bytes) (ns : List ℕ) (i n : ℕ) (k : Bytes) (e : length ns ≡ length ks) (l : i < length ks)
-    (key : get_or ks i k ≡ k) (number : get_or ns i n ≡ n) where
-  rows-more : filter (exceeds 0) (take (i + 1) (zip ks ns))
-      ≡ filter (exceeds 0) (take i (zip ks ns)) ++ cond (nat_lt 0 n) ((k, n) ∷ []) []
-  rows-more =
-      let zs = zip ks ns in
-      let at : get_or zs i (k, n) ≡ (k, n) = get_or-zip ks ns i (k, n) l (omega (arith, e, l))
-      ∙ (λ j. (key j, number j)) in
-      filter_more (exceeds 0) zs i (k, n) (omega (arith, e, l, length-zip ks ns))
-      ∙ ap (λ (z : Entry). filter (exceeds 0) (take i zs) ++ cond (exceeds 0 z) (z ∷ []) []) at
-
-  -- the next key came
-  pub rows-came : 0 < n
-      → filter (exceeds 0) (take (i + 1) (zip ks ns)) ≡ filter (exceeds 0) (take i (zip ks ns)) ++ (k, n) ∷ []
-  rows-came some =
-      let test : nat_lt 0 n ≡ true = grind (arith, nat_tests, some) in
-      rows-more ∙ ap (λ b. filter (exceeds 0) (take i (zip ks ns)) ++ cond b ((k, n) ∷ []) []) test
-
-  -- the next key did not come
-  pub rows-absent : n ≤ 0 → filter (exceeds 0) (take (i + 1) (zip ks ns)) ≡ filter (exceeds 0) (take i (zip ks ns))
-  rows-absent none =
-      let test : nat_lt 0 n ≡ false = grind (arith, nat_tests, none) in
-      rows-more ∙ ap (λ b. filter (exceeds 0) (take i (zip ks ns)) ++ cond b ((k, n) ∷ []) []) test
-      ∙ append-nil (filter (exceeds 0) (take i (zip ks ns)))

@@ -6,7 +6,6 @@ pub mod Runs
 pub mod TakingOver
 pub mod Linked
 pub mod Gathering
-pub mod Sorting
 pub mod Monitoring
 pub mod Condensing
 pub mod CondensedCounts

@@ -1,12 +1,12 @@
 //! Space-Saving in buckets, which are put right only before a key is dropped.
 
-ghost use Rattle.std.specs.Prelude.{◌≡◌, ℕ, true, ◌+◌, ◌^◌, ◌<◌, ◌≤◌, ◌↔◌, [], IfSome, IsOk, IfOk, IfErr, IsErrOf, OnOk, OnErr, None, Some, length, false};
+ghost use Rattle.std.specs.Prelude.{◌≡◌, ℕ, true, ◌+◌, ◌^◌, ◌<◌, ◌≤◌, ◌↔◌, [], IfSome, IsOk, IfOk, IfErr, IsErrOf, OnOk, OnErr, None, Some, filter, length, false};
 ghost use Rattle.std.specs.Map.{keys_of, lookup};
 ghost use Rattle.std.specs.List.{IsDistinct};
 ghost use Rattle.indexmap.specs.IndexMap.{get as index_get, index_of, IsUnique, Updates};
 ghost use Rattle.hh_stream.specs.Weights.{Bytes, max_key_len, max_total, same_key, total_of, weight_of};
 ghost use Rattle.hh_stream.specs.Ranges.{in_range};
-ghost use Rattle.hh_summaries.specs.Counters.{max_k, IsCounters, tally, least_counter, lower};
+ghost use Rattle.hh_summaries.specs.Counters.{max_k, exceeds, tally, least_counter, lower};
 ghost use Rattle.hh_summaries.specs.Faults.{IsNewFault, IsAddFault};
 ghost use Rattle.hh_counters.specs.SpaceSaving.{monitor_with};
 ghost use Rattle.std.specs.BTreeSet.{IsUnchanged, Updates as SetUpdates, insert_key};
@@ -15,7 +15,7 @@ ghost use Rattle.hh_counters.specs.Buckets.{HasFreshFirst, IsTakenIn, BoundCount
 use crate::monitor::Monitor;
 use crate::shared_key::SharedKey;
 use hh_stream::{BorrowedKey, Key, KeyHash, MAX_TOTAL, in_range};
-use hh_summaries::{MAX_K, Summary, SummaryFault, push_copy};
+use hh_summaries::{MAX_K, Summary, SummaryFault, lower_all, push_copy, sort_by_key};
 use indexmap::IndexMap;
 use std::alloc::{AllocError, Global};
 use std::collections::BTreeSet;
@@ -201,23 +201,23 @@ fn translated_entries(
     least: u64,
 ) -> Result<Vec<(Key, u64)>, AllocError>
     requires distinct { IsDistinct same_key (keys_of index.now.entries) }
-    requires positive { IsCounters (tally index.now.entries) }
     ensures { IfOk result (λ entries. entries.items ≡ lower least (tally index.now.entries)) }
 {
     let mut entries = entries_above(alloc, index, least)?;
-    entries.sort_unstable_by(|a, b| a.0.cmp(&b.0));
+    sort_by_key(&mut entries);
+    lower_all(&mut entries, least);
     Ok(entries)
 }
 
-// The counters above this number, less it, in the order of the index.
+// The counters above this number, in the order of the index.
 fn entries_above(alloc: Global, index: &Index, least: u64) -> Result<Vec<(Key, u64)>, AllocError>
-    ensures { IfOk result (λ entries. entries.items ≡ lower least index.now.entries) }
+    ensures { IfOk result (λ entries. entries.items ≡ filter (exceeds least) index.now.entries) }
 {
     let mut entries = Vec::new(alloc);
     for i in 0..index.len() {
         if let Some((key, counter)) = index.get_index(i) {
             if *counter > least {
-                push_copy(&mut entries, key.key(), *counter - least)?;
+                push_copy(&mut entries, key.key(), *counter)?;
             }
         }
     }

@@ -59,12 +59,8 @@ impl Candidates {
     {
         // It bounds the number of keys.
         let _k = summary.k();
-        let mut keys = IndexSet::with_capacity_and_hasher(alloc, summary.len(), hash)?;
-        for i in 0..summary.len() {
-            let (key, _) = summary.entry(i);
-            insert_copy(&mut keys, key)?;
-        }
-        Ok(Candidates { keys })
+        let candidates = Candidates::of_entries(alloc, summary.entries(), hash)?;
+        Ok(candidates)
     }
 
     /// The keys of some entries by rising key, hashed by `hash`.
@@ -98,12 +94,19 @@ impl Candidates {
         self.keys.is_empty()
     }
 
+    /// The keys.
+    pub(crate) fn keys(&self) -> &[Key]
+        ensures { result.now ≡ self.now }
+    {
+        self.keys.as_slice()
+    }
+
     /// The i-th key by rising key.
     pub fn key(&self, i: usize) -> &Key
         requires { i < length self.now }
         ensures { slice_get self.now i ≡ Some result.now }
     {
-        &self.keys.as_slice()[i]
+        &self.keys()[i]
     }
 
     /// Where the key is, if it is a candidate.
@@ -180,7 +183,7 @@ impl Candidates {
         ensures none { rows_above p q total (zip self.now numbers.now) ≡ [] → IsOk result }
     {
         let alloc = *self.keys.allocator();
-        selected_rows(alloc, self.keys.as_slice(), numbers, p, q, total)
+        selected_rows(alloc, self.keys(), numbers, p, q, total)
     }
 }
 

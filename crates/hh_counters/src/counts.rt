@@ -9,7 +9,7 @@ ghost use Rattle.hh_counters.specs.Counting.{count_of, count_with};
 
 use crate::candidates::Candidates;
 use crate::laws::{counts_add_up, counts_follow_items, counts_stay_within};
-use crate::report::{Heavy, push_row};
+use crate::report::{Heavy, heavy_rows};
 use hh_stream::{MAX_TOTAL, PieceFault, Sketch, Stream, add_each};
 use std::alloc::{AllocError, Global};
 use std::marker::Model;
@@ -117,13 +117,7 @@ impl<'c> Counts<'c> {
         ensures { IfOk result (λ rows. rows.items
             ≡ filter (exceeds 0) (zip self.now.keys self.now.weights)) }
     {
-        let mut rows = Vec::new(alloc);
-        for place in 0..self.candidates.len() {
-            let weight = self.weights[place];
-            if weight > 0 {
-                push_row(&mut rows, self.candidates.key(place), weight)?;
-            }
-        }
+        let rows = heavy_rows(alloc, self.candidates.keys(), &self.weights, 1, 1, 0)?;
         Ok(rows)
     }
 }

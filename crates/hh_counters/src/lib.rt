@@ -18,5 +18,5 @@ pub use candidates::Candidates;
 pub use counts::Counts;
 pub use hh_summaries::{MAX_K, Summary, SummaryFault};
 pub use monitor::{Monitor, monitored_summary};
-pub use report::{Heavy, MAX_Q, is_threshold};
+pub use report::{Heavy, MAX_Q, is_threshold, selected_rows};
 pub use space_saving::SpaceSaving;

@@ -50,8 +50,8 @@ pub fn selected_rows(
     Ok(rows)
 }
 
-// The keys whose number is more than p/q of the total, each with its number, by rising key.
-fn heavy_rows(
+/// The keys whose number is more than p/q of the total, each with its number, by rising key.
+pub(crate) fn heavy_rows(
     alloc: Global,
     keys: &[Key],
     numbers: &[u64],
@@ -73,8 +73,8 @@ fn heavy_rows(
     Ok(rows)
 }
 
-/// Puts a row with a copy of the key last.
-pub(crate) fn push_row(rows: &mut Vec<Heavy>, key: &Key, weight: u64) -> Result<(), AllocError>
+// Puts a row with a copy of the key last.
+fn push_row(rows: &mut Vec<Heavy>, key: &Key, weight: u64) -> Result<(), AllocError>
     ensures { OnOk result (rows.new.items ≡ rows.old.items ++ (key.now, weight) ∷ []) }
 {
     let key = key.copy()?;

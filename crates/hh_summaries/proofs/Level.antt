@@ -1,5 +1,5 @@
 -- The level, and what a cut takes.
-use Rattle.std.proofs.Common.{◌≡◌, ℕ, suc, Option, Some, None, ◌+◌, ◌-◌, ◌*◌, ◌<◌, ◌≤◌, ◌⊎◌, inl, inr, ⊎_elim, Bool, true, false, cond, min, max, List, [], ◌∷◌, ◌++◌, length, get_or, map, Less, refl, sym, ap, ◌∙◌, subst, mul-one, mul-zero, mul-add, arith, filter, fold, count_by, nat_lt, nat_le, slice_get, take, IsPermutation}
+use Rattle.std.proofs.Common.{◌≡◌, ℕ, suc, Option, Some, None, ◌+◌, ◌-◌, ◌*◌, ◌<◌, ◌≤◌, ◌⊎◌, inl, inr, ⊎_elim, Bool, true, false, cond, min, max, List, [], ◌∷◌, ◌++◌, length, get_or, map, Less, refl, sym, ap, ◌∙◌, append-nil, subst, mul-one, mul-zero, mul-add, arith, filter, fold, count_by, nat_lt, nat_le, slice_get, take, IsPermutation}
 use Rattle.std.specs.Prelude.{unwrap_or}
 use Rattle.std.specs.List.{AllByRecursion, IsDistinct}
 use Rattle.std.specs.List.Sorted.{IsStrictlySortedBy, IsSplitAround}
@@ -279,6 +279,26 @@ pub entry_at : (es : List Entry) (i : ℕ) (e : Entry) → Some e ≡ slice_get 
 entry_at es i e is =
     let l : i < length es = slice_get_within es i e (sym is) in
     take_more es i e l ∙ ap (λ (d : Entry). take i es ++ d ∷ []) (get_or_from_slice_get es i e e (sym is))
+
+-- one entry more that passes, or does not
+pub passes_more : (p : Entry → Bool) (es : List Entry) (i : ℕ) (e : Entry) → Some e ≡ slice_get es i
+    → filter p (take (i + 1) es) ≡ filter p (take i es) ++ cond (p e) (e ∷ []) []
+passes_more p es i e is = ap (filter p) (entry_at es i e is) ∙ filter-append p (take i es) (e ∷ [])
+
+-- one more that exceeds a number
+pub above_more : (t : ℕ) (es : List Entry) (i : ℕ) (e : Entry) → Some e ≡ slice_get es i → t < e.1
+    → filter (exceeds t) (take (i + 1) es) ≡ filter (exceeds t) (take i es) ++ e ∷ []
+above_more t es i e is above =
+    let test : nat_lt t e.1 ≡ true = grind (arith, nat_tests, above) in
+    passes_more (exceeds t) es i e is ∙ ap (λ b. filter (exceeds t) (take i es) ++ cond b (e ∷ []) []) test
+
+-- one more that doesn't
+pub above_same : (t : ℕ) (es : List Entry) (i : ℕ) (e : Entry) → Some e ≡ slice_get es i → e.1 ≤ t
+    → filter (exceeds t) (take (i + 1) es) ≡ filter (exceeds t) (take i es)
+above_same t es i e is below =
+    let test : nat_lt t e.1 ≡ false = grind (arith, nat_tests, below) in
+    passes_more (exceeds t) es i e is ∙ ap (λ b. filter (exceeds t) (take i es) ++ cond b (e ∷ []) []) test
+    ∙ append-nil (filter (exceeds t) (take i es))
 
 -- lowered one after the other
 lower-append : (t : ℕ) (es fs : List Entry) → lower t (es ++ fs) ≡ lower t es ++ lower t fs

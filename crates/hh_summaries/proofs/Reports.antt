@@ -1,25 +1,27 @@
 -- The report holds exactly the heavy keys, in order, and each of them has a counter in honest counters.
-use Rattle.std.proofs.Common.{◌≡◌, ℕ, suc, ◌+◌, ◌*◌, ◌<◌, ◌≤◌, ⊎_elim, Bool, true, false, true≢false, not, cond, List, [], ◌∷◌, length, Ordering, Less, Equal, Greater, is_lt, is_eq, nat_cmp, refl, sym, ap, ap₂, ◌∙◌, subst, mul_comm, mul_assoc, mul-le-mul_left, mul-le-mul_right, mul-zero, arith, map, fold, filter, nat_lt, zip, get_or, take, ◌++◌, ◌↔◌, Contains, IsPermutation, IsSortedBy, All}
+use Rattle.std.proofs.Common.{◌≡◌, ℕ, suc, ◌+◌, ◌*◌, ◌<◌, ◌≤◌, ⊎_elim, Bool, true, false, true≢false, not, cond, Option, Some, None, List, [], ◌∷◌, length, Ordering, Less, Equal, Greater, is_lt, is_eq, nat_cmp, refl, sym, ap, ap₂, ◌∙◌, subst, mul_comm, mul_assoc, mul-le-mul_left, mul-le-mul_right, mul-zero, arith, map, fold, filter, nat_lt, zip, get_or, take, ◌++◌, ◌↔◌, Contains, IsPermutation, IsSortedBy, All}
 use Rattle.std.specs.List.{AllByRecursion}
 use Rattle.std.specs.List.Sorted.{IsStrictlySortedBy}
-use Rattle.std.specs.Map.{keys_of}
-use Rattle.std.specs.Cmp.{IsTotalOrder}
+use Rattle.std.specs.Prelude.{unwrap_or}
+use Rattle.std.specs.Map.{keys_of, lookup}
+use Rattle.std.specs.Cmp.{IsTotalOrder, eq_by_cmp_equiv}
 use Rattle.std.specs.Ordering.{ordering_reverse, ordering_then}
 use Rattle.std.proofs.lemmas.Cmp.{nat_cmp_total, then_total, back_total, on_total}
+use Rattle.std.proofs.Math.Nat.{one-mul}
 use Rattle.std.proofs.lemmas.Bool.{cases_lt, cond_both}
 use Rattle.std.proofs.lemmas.Bool.Decides.{nat_tests}
 use Rattle.std.proofs.lemmas.Map.Keys.{Less-from_sorted, IsDistinct-IsPermutation, IsDistinct-from_sorted, apart_from_distinct, sorted_from_all_adjacent}
-use Rattle.std.proofs.lemmas.Map.Entries.{length-keys_of}
-use Rattle.std.proofs.lemmas.Map.Made.{keys_of-zip}
+use Rattle.std.proofs.lemmas.Map.Entries.{length-keys_of, lookup-filter-values, option_filter}
+use Rattle.std.proofs.lemmas.Map.Made.{IsDistinct-keys_filter, keys_of-zip}
 use Rattle.std.proofs.lemmas.List.{get_or-map, append-nil, length-map}
 use Rattle.std.proofs.lemmas.List.Sorted.{IsPermutation-refl, IsPermutation-trans, IsPermutation-cons, IsPermutation-middle, IsPermutation-append_left, IsPermutation-filter_both, IsPermutation-map, IsPermutation-sym, All-permutation, Contains-permutation, length_permutation, sum_by-IsPermutation}
 use Rattle.std.proofs.lemmas.List.Elements.{filter_more, filter_passes, All-filter, All-map, All-weaker, All-contains, All-contains_itself, All-from_recursion, recursion_from_All, Contains-append_cases, Contains-get_or}
 use Rattle.std.proofs.lemmas.List.Kept.{IsStrictlySortedBy-filter}
 use Rattle.std.proofs.lemmas.Slice.Zip.{get_or-zip, length-zip}
 use Rattle.hh_stream.specs.Weights.{Bytes, Entry, key_cmp, same_key, at_key, weight_of, total_of}
-use Rattle.hh_summaries.specs.Counters.{Counters, IsCounters, tally, IsHonest}
+use Rattle.hh_summaries.specs.Counters.{Counters, IsCounters, IsHonest, exceeds, less_by, lower, tally}
 use Rattle.hh_summaries.specs.Report.{rank_cmp, ranked_in, by_rank, is_heavy, rows_above, heavy, weights_at, has_counter, IsReport}
-use Rattle.hh_summaries.proofs.Weights.{Distinct, same_sym, key_total, rising-tally, weight_of-tally, flipped, number_from_in, positive_in, in_from_number, same_counters, same_rising}
+use Rattle.hh_summaries.proofs.Weights.{Distinct, counters-tally, same_sym, key_total, rising-tally, weight_of-lookup, weight_of-tally, flipped, number_from_in, positive_in, in_from_number, same_counters, same_rising}
 use Rattle.hh_summaries.proofs.Places.{counters_from_places}
 
 -- ---- members
@@ -268,6 +270,10 @@ ranked_from_sort es ys h perm sorted =
     (λ x i. Contains-permutation es ys x perm (in-by_rank x es i))
 
 -- ---- candidates, one by one
+-- what is more than the whole of t exceeds it
+pub over_whole : (t : ℕ) (es : List Entry) → filter (is_heavy 1 1 t) es ≡ filter (exceeds t) es
+over_whole t es = λ i. filter (λ (e : Entry). nat_lt (one-mul t i) (one-mul e.1 i)) es
+
 -- one more candidate is selected where its number is above the share
 pub select_more : (p q n : ℕ) (ks : List Bytes) (ns : List ℕ) (i : ℕ) (k : Bytes) → length ns ≡ length ks
     → i < length ks → k ≡ get_or ks i k
@@ -371,6 +377,51 @@ filter_all p [] h = refl
 filter_all p (e ∷ es) h = ap (λ b. cond b (e ∷ filter p es) (filter p es)) (h e (0, omega arith, refl))
     ∙ ap (λ (ds : List Entry). e ∷ ds) (filter_all p es (λ x i. h x (suc i.0, omega (arith, i.1), i.2)))
 
+-- ---- entries that exceed a number
+-- those of them that exceed it are all
+pub above_again : (t : ℕ) (es : List Entry) → filter (exceeds t) (filter (exceeds t) es) ≡ filter (exceeds t) es
+above_again t es = filter_all (exceeds t) (filter (exceeds t) es) (λ x i. (in_filter (exceeds t) x es i).1)
+
+-- lowered by it, they are as all lowered
+pub lower-above : (t : ℕ) (es : List Entry) → lower t (filter (exceeds t) es) ≡ lower t es
+unfolding lower
+lower-above t es = ap (map (less_by t)) (above_again t es)
+
+-- they weigh something
+pub positive-above : (t : ℕ) (es : List Entry) → AllByRecursion (λ (e : Entry). 0 < e.1) (filter (exceeds t) es)
+positive-above t [] = tt
+positive-above t (e ∷ es) =
+    cond_both (exceeds t e) (e ∷ filter (exceeds t) es) (filter (exceeds t) es) (AllByRecursion (λ (e : Entry). 0 < e.1))
+    (λ p. (grind (arith, nat_tests, p), positive-above t es)) (λ _. positive-above t es)
+
+-- a number where it is above t, and else 0
+abbrev kept : ℕ → ℕ → ℕ
+kept t n = cond (nat_lt t n) n 0
+
+-- of distinct keys they keep those above t
+weight_of-above : (t : ℕ) (q : Bytes) (es : List Entry) → Distinct es
+    → weight_of q (filter (exceeds t) es) ≡ kept t (weight_of q es)
+weight_of-above t q es h =
+    weight_of-lookup q (filter (exceeds t) es) (IsDistinct-keys_filter same_key (exceeds t) es h)
+    ∙ ap (λ o. unwrap_or o 0) (lookup-filter-values (eq_by_cmp_equiv key_total) (nat_lt t) q es h)
+    ∙ by (lookup (same_key q) es) ∙ ap (kept t) (sym (weight_of-lookup q es h))
+  where
+    by : (o : Option ℕ) → unwrap_or (option_filter (nat_lt t) o) 0 ≡ kept t (unwrap_or o 0)
+    by None = cond_both (nat_lt t 0) 0 0 (λ n. 0 ≡ n) (λ _. refl) (λ _. refl)
+    by (Some n) = cond_both (nat_lt t n) (Some n) None (λ o. unwrap_or o 0 ≡ kept t n)
+        (λ p. sym (ap (λ b. cond b n 0) p)) (λ p. sym (ap (λ b. cond b n 0) p))
+
+-- of distinct keys, by rising key, they are those of all by rising key
+pub tally-above : (t : ℕ) (es : List Entry) → Distinct es → tally (filter (exceeds t) es) ≡ filter (exceeds t) (tally es)
+tally-above t es h =
+    let some = filter (exceeds t) es in
+    let rising = rising-tally es in
+    same_counters _ _ (counters-tally some (positive-above t es))
+    (record { rising = rising-filter (exceeds t) (tally es) rising; positive = positive-above t (tally es) })
+    (λ q. weight_of-tally q some ∙ weight_of-above t q es h ∙ ap (kept t) (sym (weight_of-tally q es))
+    ∙ sym (weight_of-above t q (tally es) (IsDistinct-from_sorted key_cmp (keys_of (tally es)) rising)))
+
+-- ---- the keys of counters, selected
 -- selected by their weights, the keys of counters are the heavy entries that have one
 pub report_with_counters : (c : Counters) (xs : List Entry) (p q : ℕ) → IsCounters c
     → rows_above p q (total_of xs) (zip (keys_of c) (weights_at (keys_of c) xs)) ≡ filter (has_counter c) (heavy xs p q)

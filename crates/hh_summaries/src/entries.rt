@@ -1,12 +1,12 @@
 //! Work on lists of keys with counters, by rising key.
 
 ghost use Rattle.std.specs.Prelude.{◌≡◌, ◌+◌, ◌<◌, ◌≤◌, ◌^◌, ◌↔◌, [], ◌∷◌, ◌++◌, OnOk, OnErr, IsOk, IsTrue, IfOk, IfErr, length, HoldsAt};
-ghost use Rattle.std.specs.List.{AllWithin, insert};
+ghost use Rattle.std.specs.List.{AllByRecursion, AllWithin, IsDistinct, insert};
 ghost use Rattle.std.specs.List.Sorted.{IsStrictlySortedBy};
 ghost use Rattle.std.specs.Map.{keys_of, values_of};
 ghost use Rattle.std.specs.declared.cmp.Ordering.TheVariants.{Less, Equal, Greater};
-ghost use Rattle.hh_stream.specs.Weights.{Bytes, Entry, key_cmp, max_key_len, weight_of, total_of};
-ghost use Rattle.hh_summaries.specs.Counters.{Counters, IsCounters, lower, level, least_counter as least_counter_of, add_at, cut as cut_counters, plus, join};
+ghost use Rattle.hh_stream.specs.Weights.{Bytes, Entry, key_cmp, max_key_len, same_key, weight_of, total_of};
+ghost use Rattle.hh_summaries.specs.Counters.{Counters, IsCounters, lower, level, least_counter as least_counter_of, add_at, cut as cut_counters, plus, join, tally};
 ghost use Rattle.hh_summaries.specs.Report.{by_rank};
 
 use hh_stream::Key;
@@ -59,6 +59,16 @@ pub fn lower_all(entries: &mut Vec<(Key, u64)>, t: u64)
         entry.1 = entry.1.saturating_sub(t);
         is_above
     });
+}
+
+/// Sorts entries with distinct keys and counters above 0 by rising key.
+pub fn sort_by_key(entries: &mut Vec<(Key, u64)>)
+    requires distinct { IsDistinct same_key (keys_of entries.old.items) }
+    requires positive { AllByRecursion (λ (e : Entry). 0 < e.1) entries.old.items }
+    ensures sorted { entries.new.items ≡ tally entries.old.items }
+    ensures count { length entries.new.items ≡ length entries.old.items }
+{
+    entries.sort_unstable_by(|a, b| a.0.cmp(&b.0));
 }
 
 /// Whether the keys rise and each counter is at least 1.

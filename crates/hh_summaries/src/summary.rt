@@ -176,6 +176,13 @@ impl Summary {
         (&entry.0, entry.1)
     }
 
+    /// The keys with their counters, by rising key.
+    pub fn entries(&self) -> &[(Key, u64)]
+        ensures { result.now ≡ self.now.counters }
+    {
+        &self.entries
+    }
+
     /// The keys with their counters, by falling counter and then by rising key.
     pub fn ranked(&self) -> Result<Vec<(Key, u64)>, AllocError>
         ensures ranked { IfOk result (λ ranked. ranked.items ≡ by_rank self.now.counters) }

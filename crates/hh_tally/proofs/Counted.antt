@@ -9,8 +9,7 @@ use Rattle.std.proofs.lemmas.Option.{slice_get-get_or}
 use Rattle.hh_stream.specs.Weights.{Entry, weight_of}
 use Rattle.hh_summaries.specs.Report.{weights_at}
 use Rattle.hh_tally.specs.Tallies.{TallyView, is_sure, is_unsure, unsure_of}
-use Rattle.hh_summaries.proofs.Level.{entry_at}
-use Rattle.hh_tally.proofs.Raising.{passes_more}
+use Rattle.hh_summaries.proofs.Level.{entry_at, passes_more}
 
 -- the weights of the keys of some entries and of others
 weights-append : (xs ds es : List Entry) → weights_at (keys_of (ds ++ es)) xs ≡ weights_at (keys_of ds) xs ++ weights_at (keys_of es) xs

@@ -2,6 +2,5 @@ pub mod Raising
 pub mod Sure
 pub mod Bounds
 pub mod Keeping
-pub mod Sorting
 pub mod Reporting
 pub mod Counted

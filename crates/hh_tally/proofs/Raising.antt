@@ -1,12 +1,11 @@
 -- What an item adds to entries with distinct keys, and what lowering takes from them.
-use Rattle.std.proofs.Common.{◌≡◌, ℕ, ◌+◌, ◌-◌, ◌<◌, ◌≤◌, Bool, true, false, cond, List, [], ◌∷◌, ◌++◌, length, Some, None, refl, sym, ap, ◌∙◌, subst, arith, filter, fold, nat_lt, take, drop, slice_get}
+use Rattle.std.proofs.Common.{◌≡◌, ℕ, ◌+◌, ◌-◌, ◌<◌, ◌≤◌, Bool, true, false, cond, List, [], ◌∷◌, ◌++◌, length, Some, None, refl, sym, ap, ◌∙◌, subst, arith, fold, nat_lt, take, drop, slice_get}
 use Rattle.std.specs.Prelude.{unwrap_or}
 use Rattle.std.specs.List.{AllByRecursion, IsDistinct}
 use Rattle.std.specs.Map.{keys_of, lookup}
 use Rattle.std.proofs.lemmas.Bool.{cond_both}
 use Rattle.std.specs.Map.Calls.{RetainsPairs}
 use Rattle.std.proofs.lemmas.List.{map-append, take-append-drop}
-use Rattle.std.proofs.lemmas.List.Elements.{filter-append}
 use Rattle.std.proofs.lemmas.List.Sums.{sum_by-append, fold-append}
 use Rattle.indexmap.specs.IndexMap.{insert_entry}
 use Rattle.hh_stream.specs.Weights.{Bytes, Entry, same_key, at_key, weight_of, total_of}
@@ -125,11 +124,6 @@ bytes_more es i e is =
     ap (λ (ds : List Entry). bytes_of (keys_of ds)) (entry_at es i e is)
     ∙ ap bytes_of (map-append (λ (d : Entry). d.0) (take i es) (e ∷ []))
     ∙ sum_by-append length (keys_of (take i es)) (e.0 ∷ []) ∙ omega arith
-
--- one entry more that passes, or does not
-pub passes_more : (p : Entry → Bool) (es : List Entry) (i : ℕ) (e : Entry) → Some e ≡ slice_get es i
-    → filter p (take (i + 1) es) ≡ filter p (take i es) ++ cond (p e) (e ∷ []) []
-passes_more p es i e is = ap (filter p) (entry_at es i e is) ∙ filter-append p (take i es) (e ∷ [])
 
 -- one entry more is added
 pub added_more : (fs es : List Entry) (i : ℕ) (e : Entry) → Some e ≡ slice_get es i

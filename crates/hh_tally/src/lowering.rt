@@ -1,16 +1,16 @@
 //! Counters in an index, raised and lowered.
 
 ghost use Rattle.std.specs.Prelude.{◌≡◌, ℕ, Bool, get_or, map, ◌+◌, ◌-◌, ◌*◌, ◌<◌, ◌≤◌, ◌^◌, ◌/◌, ◌&&◌, ◌||◌, cond, ◌++◌, ◌∷◌, [], fold, filter, length, max, nat_lt, false, IfOk, OnOk, OnErr, IsTrue};
-ghost use Rattle.std.specs.List.{AllByRecursion, IsDistinct};
+ghost use Rattle.std.specs.List.{IsDistinct};
 ghost use Rattle.std.specs.Map.{keys_of};
 ghost use Rattle.indexmap.specs.IndexMap.{with_value_at};
-ghost use Rattle.hh_stream.specs.Weights.{Bytes, Entry, max_key_len, same_key, total_of};
+ghost use Rattle.hh_stream.specs.Weights.{Bytes, max_key_len, same_key, total_of};
 ghost use Rattle.hh_summaries.specs.Counters.{exceeds, level, lower, over, tally};
 ghost use Rattle.hh_tally.specs.Tallies.{AreFlags, filled, add_in, bytes_of, loss_of, left_of, most_left, are_large, is_over};
 
 use crate::room::Room;
 use hh_stream::{BorrowedKey, Key, KeyHash};
-use hh_summaries::{level_of, push_copy};
+use hh_summaries::{level_of, push_copy, sort_by_key};
 use indexmap::IndexMap;
 use std::alloc::{AllocError, Global};
 
@@ -240,12 +240,11 @@ pub fn sorted_above(
     index: &IndexMap<Key, u64, KeyHash>,
     t: u64,
 ) -> Result<Vec<(Key, u64)>, AllocError>
-    requires { AllByRecursion (λ (e : Entry). 0 < e.1) index.now.entries }
     ensures entries { IfOk result
         (λ entries. entries.items ≡ filter (exceeds t) (tally index.now.entries)) }
     ensures count { IfOk result (λ entries. length entries.items ≡ over index.now.entries t) }
 {
     let mut entries = entries_above(alloc, index, t)?;
-    entries.sort_unstable_by(|a, b| a.0.cmp(&b.0));
+    sort_by_key(&mut entries);
     Ok(entries)
 }

@@ -1,23 +1,20 @@
 -- What the keys that can exceed a floor tell, once they were counted.
-use Rattle.std.proofs.Common.{◌≡◌, ℕ, suc, ◌+◌, ◌-◌, ◌*◌, ◌/◌, ◌<◌, ◌≤◌, ⊎_elim, ◌⊎◌, inl, inr, true, false, cond, List, [], ◌∷◌, length, refl, sym, ap, ◌∙◌, subst, mul-add, mul-le-mul_right, arith, filter, fold, get_or, nat_lt, take, zip, ◌++◌, Less, Contains}
+use Rattle.std.proofs.Common.{◌≡◌, ℕ, suc, ◌+◌, ◌-◌, ◌*◌, ◌/◌, ◌<◌, ◌≤◌, ⊎_elim, ◌⊎◌, inl, inr, true, false, cond, List, [], ◌∷◌, length, refl, sym, ap, ◌∙◌, subst, mul-add, mul-le-mul_right, arith, filter, fold, nat_lt, take, zip, Contains}
 use Rattle.std.specs.List.{AllByRecursion, IsDistinct}
 use Rattle.std.specs.List.Sorted.{IsStrictlySortedBy}
-use Rattle.std.specs.Map.{keys_of}
+use Rattle.std.specs.Map.{keys_of, values_of}
 use Rattle.std.specs.Ordering.{is_lt}
 use Rattle.std.proofs.lemmas.Bool.{cases_lt, cond_both}
 use Rattle.std.proofs.lemmas.Bool.Decides.{nat_tests}
 use Rattle.std.proofs.lemmas.List.Sums.{length-filter}
-use Rattle.std.proofs.lemmas.List.{get_or-map, take_more}
-use Rattle.std.proofs.lemmas.Map.Entries.{length-keys_of}
-use Rattle.std.proofs.lemmas.Slice.Zip.{get_or-zip, length-zip}
-use Rattle.std.proofs.lemmas.List.Elements.{All-contains, All-contains_itself, All-map, All-weaker, filter-append}
+use Rattle.std.proofs.lemmas.List.Elements.{All-contains, All-contains_itself, All-map, All-weaker}
 use Rattle.hh_stream.specs.Weights.{Bytes, Entry, key_cmp, same_key, total_of, weight_of}
 use Rattle.hh_summaries.specs.Counters.{Counters, add_at, exceeds, level, over, tally}
 use Rattle.hh_summaries.specs.Report.{by_rank, rank_cmp, ranked_in, weights_at}
 use Rattle.hh_summaries.proofs.Level.{is_level, over-cons}
 use Rattle.hh_summaries.proofs.Summaries.{total_of-cut}
 use Rattle.hh_summaries.proofs.Weights.{Distinct, by_add_at, in_from_number, number_from_in, rising-tally, same_self, same_sym, weight_of-tally}
-use Rattle.hh_summaries.proofs.Reports.{candidates, candidates_in, filter_in, keys_of-candidates, rising-filter, same_ranked, zip-weights_at}
+use Rattle.hh_summaries.proofs.Reports.{above_again, candidates, candidates_in, filter_in, keys_of-candidates, rising-filter, same_ranked, zip-weights_at}
 use Rattle.hh_tally.specs.Tallies.{AreBounds, IsLoss, TallyView, unsure_of}
 use Rattle.hh_top.specs.Top.{IsUncertain, ShortlistView, chosen_of, counted_of, floor_of, most_uncounted, nth_counter, rows_over, stand_out, top}
 use Rattle.hh_top.proofs.Ranking.{first_rows, over_is_exact}
@@ -306,37 +303,12 @@ chosen_few k d t c least count = omega (
   (is_level t.counters k).at_most,
 )
 
--- ---- rows of a count
-all_zip : (P : Bytes → Type 0) (ks : List Bytes) (ns : List ℕ) → AllByRecursion P ks → AllByRecursion P (keys_of (zip ks ns))
-all_zip P [] ns h = tt
-all_zip P (k ∷ ks) [] h = tt
-all_zip P (k ∷ ks) (n ∷ ns) h = (h.0, all_zip P ks ns h.1)
+-- ---- entries as rows
+-- entries have the keys and the numbers that they are made of
+pub zip_again : (es : List Entry) → zip (keys_of es) (values_of es) ≡ es
+zip_again [] = refl
+zip_again (e ∷ es) = ap (λ (ds : List Entry). e ∷ ds) (zip_again es)
 
--- keys with numbers rise as the keys do
-rising_zip : (ks : List Bytes) (ns : List ℕ) → IsStrictlySortedBy key_cmp ks
-    → IsStrictlySortedBy key_cmp (keys_of (zip ks ns))
-unfolding IsStrictlySortedBy
-rising_zip [] ns h = tt
-rising_zip (k ∷ ks) [] h = tt
-rising_zip (k ∷ ks) (n ∷ ns) h = (all_zip (λ y. key_cmp k y ≡ Less) ks ns h.0, rising_zip ks ns h.1)
-
--- a row more, or none, of entries with these keys and numbers
-pub row_more : (t : ℕ) (es : List Entry) (ns : List ℕ) (i : ℕ) → length ns ≡ length es → i < length es
-    → filter (exceeds t) (take (i + 1) (zip (keys_of es) ns)) ≡ filter (exceeds t) (take i (zip (keys_of es) ns))
-    ++ cond (nat_lt t (get_or ns i 0)) (((get_or es i ([], 0)).0, get_or ns i 0) ∷ []) []
-row_more t es ns i same l =
-    let ks = keys_of es in
-    let zs : List Entry = zip ks ns in
-    let n = get_or ns i 0 in
-    let keys : i < length ks = omega (arith, l, length-keys_of es) in
-    let numbers : i < length ns = omega (arith, l, same) in
-    let entry : get_or zs i ([], 0) ≡ ((get_or es i ([], 0)).0, n) =
-    get_or-zip ks ns i ([], 0) keys numbers ∙ ap (λ k. (k, n)) (get_or-map (λ (d : Entry). d.0) es i ([], 0) [] l) in
-    ap (filter (exceeds t)) (take_more zs i ([], 0) (omega (arith, length-zip ks ns, keys, numbers))
-    ∙ ap (λ (d : Entry). take i zs ++ d ∷ []) entry)
-    ∙ filter-append (exceeds t) (take i zs) (((get_or es i ([], 0)).0, n) ∷ [])
-
--- keys with numbers rise as the keys do
-pub rising_rows : (t : ℕ) (es : List Entry) (ns : List ℕ) → IsStrictlySortedBy key_cmp (keys_of es)
-    → IsStrictlySortedBy key_cmp (keys_of (filter (exceeds t) (zip (keys_of es) ns)))
-rising_rows t es ns rises = rising-filter (exceeds t) (zip (keys_of es) ns) (rising_zip (keys_of es) ns rises)
+-- those that exceed a number have the rows over it
+pub rows_again : (t : ℕ) (es : List Entry) → rows_over t (filter (exceeds t) es) ≡ rows_over t es
+rows_again t es = ap by_rank (above_again t es)

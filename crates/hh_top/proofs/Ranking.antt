@@ -1,6 +1,5 @@
 -- The first of ranked entries.
-use Rattle.std.proofs.Common.{◌≡◌, ℕ, zero, suc, ◌*◌, ◌<◌, ◌≤◌, ⊎_elim, ◌⊎◌, inl, inr, Bool, true, false, List, [], ◌∷◌, length, get_or, Ordering, Less, Equal, Greater, is_lt, refl, sym, ap, ◌∙◌, subst, take, arith, filter, nat_lt, mul-zero, mul-le-mul_left, Contains, ◌↔◌}
-use Rattle.std.proofs.Math.Nat.{one-mul}
+use Rattle.std.proofs.Common.{◌≡◌, ℕ, zero, suc, ◌*◌, ◌<◌, ◌≤◌, ⊎_elim, ◌⊎◌, inl, inr, Bool, true, false, List, [], ◌∷◌, length, get_or, Ordering, Less, Equal, Greater, is_lt, refl, sym, ap, ◌∙◌, subst, take, arith, filter, mul-zero, mul-le-mul_left, Contains, ◌↔◌}
 use Rattle.std.specs.Cmp.{nat_cmp_is}
 use Rattle.std.specs.List.{AllByRecursion}
 use Rattle.std.specs.List.Sorted.{IsStrictlySortedBy}
@@ -14,7 +13,7 @@ use Rattle.hh_stream.specs.Weights.{Bytes, Entry, key_cmp, total_of, weight_of}
 use Rattle.hh_summaries.specs.Counters.{tally}
 use Rattle.hh_summaries.specs.Report.{by_rank, heavy, is_heavy, rank_cmp, rows_above}
 use Rattle.hh_summaries.proofs.Weights.{in_from_number, number_from_in, rising-tally, weight_of-tally}
-use Rattle.hh_summaries.proofs.Reports.{filter_in, in_filter, rank_total, ranked-filter, rows_are_exact, same_ranked}
+use Rattle.hh_summaries.proofs.Reports.{filter_in, in_filter, over_whole, rank_total, ranked-filter, rows_are_exact, same_ranked}
 use Rattle.hh_top.specs.Top.{IsTop, ranking, rows_over, top}
 
 -- ---- what comes before
@@ -48,8 +47,9 @@ first_pass p up (d ∷ es) h =
     (λ low. subst (λ (l : List Entry). l ≡ take (length l) (d ∷ es)) (sym (none_behind p up d low es h.0)) refl)
 
 -- ---- rows and the ranking
-over_is_above : (t : ℕ) (es : List Entry) → rows_over t es ≡ rows_above 1 1 t es
-over_is_above t es = λ i. by_rank (filter (λ (e : Entry). nat_lt (sym (one-mul t) i) (sym (one-mul e.1) i)) es)
+-- the rows over a number are those above the whole of it
+pub over_is_above : (t : ℕ) (es : List Entry) → rows_over t es ≡ rows_above 1 1 t es
+over_is_above t es = ap by_rank (sym (over_whole t es))
 
 -- of distinct keys the rows over a number are those that exceed it, in order
 pub over_is_exact : (t : ℕ) (es : List Entry) → IsStrictlySortedBy key_cmp (keys_of es)

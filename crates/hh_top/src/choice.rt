@@ -1,17 +1,17 @@
 //! The greatest keys, of those that a tally has counters for.
 
-ghost use Rattle.std.specs.Prelude.{◌≡◌, ◌+◌, ◌*◌, ◌≤◌, ◌++◌, ◌∷◌, [], List, IfErr, IfOk, OnOk, length, take, true, zip};
-ghost use Rattle.std.specs.Map.{keys_of};
+ghost use Rattle.std.specs.Prelude.{◌≡◌, ◌+◌, ◌*◌, ◌≤◌, List, IfErr, IfOk, length, take, true, zip};
+ghost use Rattle.std.specs.Map.{keys_of, values_of};
 ghost use Rattle.std.specs.List.Sorted.{IsStrictlySortedBy};
 ghost use Rattle.hh_stream.specs.Weights.{Entry, key_cmp};
 ghost use Rattle.hh_summaries.specs.Counters.{max_k};
-ghost use Rattle.hh_summaries.specs.Report.{by_rank, weights_at};
+ghost use Rattle.hh_summaries.specs.Report.{weights_at};
 ghost use Rattle.hh_tally.specs.Tallies.{AreBounds};
 ghost use Rattle.hh_top.specs.Top.{GreatestRefused, IsTopFault, chosen_of, counted_of, floor_of};
 ghost use Rattle.hh_top.specs.Top.{rows_over, stand_out, top};
 ghost use Rattle.hh_faults.specs.declared.error.ToolError.TheVariants.{Memory};
 
-use hh_counters::{Candidates, Heavy};
+use hh_counters::{Candidates, Heavy, selected_rows};
 use hh_faults::ToolError;
 use hh_stream::{Key, KeyHash, TakeItems};
 use hh_tally::Tally;
@@ -147,7 +147,7 @@ impl Shortlist {
         let _lost = self.tally.lost();
         let entries = self.chosen(alloc)?;
         let weights = self.tally.weights(alloc, &entries, counted)?;
-        let rows = rows_over(alloc, &entries, &weights, floor)?;
+        let rows = rows_over(alloc, entries, &weights, floor)?;
         if floor > 0 && (rows.len() as u64) < self.n {
             return Err(ToolError::TopUncertain {
                 certain: rows.len() as u64,
@@ -163,51 +163,44 @@ impl Shortlist {
         ensures { IfOk result (λ rows. (xs : List Entry) → AreBounds self.now.tally xs
             → self.now.tally.lost ≡ 0 → rows.items ≡ top self.now.n xs) }
     {
-        let entries = self.tally.above(alloc, self.counter.saturating_sub(1))?;
-        let mut rows = rows_of(alloc, &entries)?;
-        rank(&mut rows);
+        let floor = self.counter.saturating_sub(1);
+        let entries = self.tally.above(alloc, floor)?;
+        let counters = counters_in(alloc, &entries)?;
+        let rows = rows_over(alloc, entries, &counters, floor)?;
         Ok(first_of(rows, self.n))
     }
-}
-
-/// Sorts rows with distinct keys by falling weight and then by rising key.
-fn rank(rows: &mut Vec<Heavy>)
-    requires { IsStrictlySortedBy key_cmp (keys_of rows.old.items) }
-    ensures { rows.new.items ≡ by_rank rows.old.items }
-{
-    rows.sort_unstable_by(|a, b| b.weight.cmp(&a.weight).then(a.key.cmp(&b.key)));
 }
 
 /// The keys of `entries` that weigh more than `floor`, where these are their `weights`, by falling
 /// weight and then by rising key.
 fn rows_over(
     alloc: Global,
-    entries: &[(Key, u64)],
+    entries: Vec<(Key, u64)>,
     weights: &[u64],
     floor: u64,
 ) -> Result<Vec<Heavy>, AllocError>
-    requires rising { IsStrictlySortedBy key_cmp (keys_of entries.now) }
-    requires count { length weights.now ≡ length entries.now }
+    requires rising { IsStrictlySortedBy key_cmp (keys_of entries.items) }
+    requires count { length weights.now ≡ length entries.items }
     ensures { IfOk result (λ rows.
-        rows.items ≡ rows_over floor (zip (keys_of entries.now) weights.now)) }
+        rows.items ≡ rows_over floor (zip (keys_of entries.items) weights.now)) }
 {
-    let mut rows = Vec::new(alloc);
-    for i in 0..entries.len() {
-        if weights[i] > floor {
-            push_row(&mut rows, &entries[i].0, weights[i])?;
-        }
-    }
-    rank(&mut rows);
+    let keys = keys_in(alloc, entries)?;
+    let rows = selected_rows(alloc, &keys, weights, 1, 1, floor)?;
     Ok(rows)
 }
 
-/// Puts a row with a copy of `key` last.
-fn push_row(rows: &mut Vec<Heavy>, key: &Key, weight: u64) -> Result<(), AllocError>
-    ensures { OnOk result (rows.new.items ≡ rows.old.items ++ (key.now, weight) ∷ []) }
+/// The keys of entries.
+fn keys_in(alloc: Global, entries: Vec<(Key, u64)>) -> Result<Vec<Key>, AllocError>
+    ensures { IfOk result (λ keys. keys.items ≡ keys_of entries.items) }
 {
-    let key = key.copy()?;
-    rows.push(Heavy { key, weight })?;
-    Ok(())
+    entries.into_iter().map(|entry| entry.0).collect(alloc)
+}
+
+/// The counters of entries.
+fn counters_in(alloc: Global, entries: &[(Key, u64)]) -> Result<Vec<u64>, AllocError>
+    ensures { IfOk result (λ counters. counters.items ≡ values_of entries.now) }
+{
+    entries.iter().map(|entry| entry.1).collect(alloc)
 }
 
 /// The first `n` rows, or all where they are fewer.
@@ -218,15 +211,4 @@ fn first_of(mut rows: Vec<Heavy>, n: u64) -> Vec<Heavy>
         rows.truncate(n as usize);
     }
     rows
-}
-
-/// The entries as rows.
-fn rows_of(alloc: Global, entries: &[(Key, u64)]) -> Result<Vec<Heavy>, AllocError>
-    ensures { IfOk result (λ rows. rows.items ≡ entries.now) }
-{
-    let mut rows = Vec::new(alloc);
-    for (key, weight) in entries {
-        push_row(&mut rows, key, *weight)?;
-    }
-    Ok(rows)
 }

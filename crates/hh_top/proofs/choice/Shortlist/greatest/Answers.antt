@@ -13,7 +13,7 @@ returns-then-len-self-clause-refused c = λ xs bounds counted.
     let es = c.in_ok-entries.entries.items in
     let ws = c.in_ok-weights.weights.items in
     let chosen : c.in_ok-rows.rows.items ≡ rows_over c.floor-floor.result (zip (keys_of es) ws) =
-    c.in_ok-rows.ensures ∙ (λ i. rows_over c.floor-floor.result (zip (keys_of (c.deref-2.ensures.value i)) (c.deref-3.ensures.value i))) in
+    c.in_ok-rows.ensures ∙ ap (λ ns. rows_over c.floor-floor.result (zip (keys_of es) ns)) c.deref-2.ensures.value in
     let weighed = all_weighed c.args.self.now c.self.inside.tally (ap (λ (v : ShortlistView). v.tally) c.self.view_is) es
     c.deref.result.now c.in_ok-entries.ensures.entries c.deref.ensures.value c.args.counted.now ws
     c.in_ok-weights.ensures.weights xs bounds counted in
@@ -31,7 +31,7 @@ returns-then-len-self-clause-sure c = λ out xs bounds counted.
     let es = c.in_ok-entries.entries.items in
     let ws = c.in_ok-weights.weights.items in
     let chosen : c.in_ok-rows.rows.items ≡ rows_over c.floor-floor.result (zip (keys_of es) ws) =
-    c.in_ok-rows.ensures ∙ (λ i. rows_over c.floor-floor.result (zip (keys_of (c.deref-2.ensures.value i)) (c.deref-3.ensures.value i))) in
+    c.in_ok-rows.ensures ∙ ap (λ ns. rows_over c.floor-floor.result (zip (keys_of es) ns)) c.deref-2.ensures.value in
     let weighed = all_weighed c.args.self.now c.self.inside.tally (ap (λ (v : ShortlistView). v.tally) c.self.view_is) es
     c.deref.result.now c.in_ok-entries.ensures.entries c.deref.ensures.value c.args.counted.now ws
     c.in_ok-weights.ensures.weights xs bounds counted in
@@ -45,7 +45,7 @@ returns-clause-rows c = λ xs bounds counted.
     let es = c.in_ok-entries.entries.items in
     let ws = c.in_ok-weights.weights.items in
     let chosen : c.in_ok-rows.rows.items ≡ rows_over c.floor-floor.result (zip (keys_of es) ws) =
-    c.in_ok-rows.ensures ∙ (λ i. rows_over c.floor-floor.result (zip (keys_of (c.deref-2.ensures.value i)) (c.deref-3.ensures.value i))) in
+    c.in_ok-rows.ensures ∙ ap (λ ns. rows_over c.floor-floor.result (zip (keys_of es) ns)) c.deref-2.ensures.value in
     let weighed = all_weighed c.args.self.now c.self.inside.tally (ap (λ (v : ShortlistView). v.tally) c.self.view_is) es
     c.deref.result.now c.in_ok-entries.ensures.entries c.deref.ensures.value c.args.counted.now ws
     c.in_ok-weights.ensures.weights xs bounds counted in
