@@ -4,17 +4,16 @@ ghost use Rattle.std.specs.Prelude.{◌≡◌, ℕ, true, ◌+◌, ◌^◌, ◌<
 ghost use Rattle.std.specs.Map.{keys_of, lookup};
 ghost use Rattle.std.specs.List.{IsDistinct};
 ghost use Rattle.indexmap.specs.IndexMap.{get as index_get, index_of, IsUnique, Updates};
-ghost use Rattle.hh_stream.specs.Weights.{Bytes, max_key_len, max_total, same_key, total_of, weight_of};
+ghost use Rattle.hh_stream.specs.Weights.{Bytes, max_key_len, same_key, total_of, weight_of};
 ghost use Rattle.hh_stream.specs.Ranges.{in_range};
 ghost use Rattle.hh_summaries.specs.Counters.{max_k, exceeds, tally, least_counter, lower};
-ghost use Rattle.hh_summaries.specs.Faults.{IsNewFault, IsAddFault};
-ghost use Rattle.hh_counters.specs.SpaceSaving.{monitor_with};
+ghost use Rattle.hh_summaries.specs.Faults.{IsNewFault};
 ghost use Rattle.std.specs.BTreeSet.{IsUnchanged, Updates as SetUpdates, insert_key};
 ghost use Rattle.hh_counters.specs.Buckets.{HasFreshFirst, IsTakenIn, BoundCounters, by_counter};
 
 use crate::monitor::Monitor;
 use crate::shared_key::SharedKey;
-use hh_stream::{BorrowedKey, Key, KeyHash, MAX_TOTAL, in_range};
+use hh_stream::{BorrowedKey, Key, KeyHash, in_range};
 use hh_summaries::{MAX_K, Summary, SummaryFault, lower_all, push_copy, sort_by_key};
 use indexmap::IndexMap;
 use std::alloc::{AllocError, Global};
@@ -75,19 +74,11 @@ impl BucketSaving {
         if !in_range(k, MAX_K) {
             return Err(SummaryFault::BadK);
         }
-        Ok(BucketSaving::empty(alloc, k)?)
+        Ok(BucketSaving::with_hasher(alloc, k, KeyHash::fixed())?)
     }
 
-    /// [`new`](BucketSaving::new) for a k from 1 to [`MAX_K`], where only memory can be refused.
-    pub fn empty(alloc: Global, k: u64) -> Result<BucketSaving, AllocError>
-        requires { in_range k max_k ≡ true }
-        ensures { IfOk result (λ s. s ≡ record { k = k; total = 0; counters = [] }) }
-    {
-        BucketSaving::with_hasher(alloc, k, KeyHash::fixed())
-    }
-
-    /// [`empty`](BucketSaving::empty), with keys hashed by `hash`. It decides how fast a key is
-    /// found, and no counter.
+    /// [`new`](BucketSaving::new) for a k from 1 to [`MAX_K`], where only memory can be refused, with
+    /// keys hashed by `hash`. It decides how fast a key is found, and no counter.
     pub fn with_hasher(alloc: Global, k: u64, hash: KeyHash) -> Result<BucketSaving, AllocError>
         requires { in_range k max_k ≡ true }
         ensures { IfOk result (λ s. s ≡ record { k = k; total = 0; counters = [] }) }
@@ -102,26 +93,6 @@ impl BucketSaving {
             index,
             buckets: BTreeSet::new(alloc),
         })
-    }
-
-    /// [`add`](Monitor::add) of the key with these bytes, 1 to 4,096 of them.
-    pub fn add_bytes(&mut self, key: &[u8], weight: u64) -> Result<(), SummaryFault>
-        requires key { (0 < length key.now) × (length key.now ≤ max_key_len) }
-        requires positive { 0 < weight }
-        ensures added { OnOk result (self.new ≡ monitor_with self.old (key.now, weight)) }
-        ensures unchanged { OnErr result (self.new ≡ self.old) }
-        ensures too_large { IsErrOf result SummaryFault.TotalTooLarge
-            ↔ (max_total < self.old.total + weight) }
-        ensures faults { IfErr result IsAddFault }
-
-        // a monitored key takes no memory
-        ensures known { 0 < weight_of key.now self.old.counters
-            → self.old.total + weight ≤ max_total → IsOk result }
-    {
-        if weight > MAX_TOTAL - self.total {
-            return Err(SummaryFault::TotalTooLarge);
-        }
-        Ok(self.add_within(key, weight)?)
     }
 }
 

@@ -108,25 +108,15 @@ impl Table {
         ensures too_large { IsErr result ↔ (max_total < self.old.total + weight) }
         ensures fault { IfErr result (λ fault. fault ≡ TableFault.TotalTooLarge) }
     {
-        self.add_bytes(key.bytes(), weight)
-    }
-
-    /// [`add`](Table::add) of the key with these bytes.
-    pub fn add_bytes(&mut self, key: &[u8], weight: u64) -> Result<(), TableFault>
-        ensures added { OnOk result (self.new ≡ grid_with self.old (key.now, weight)) }
-        ensures unchanged { OnErr result (self.new ≡ self.old) }
-        ensures too_large { IsErr result ↔ (max_total < self.old.total + weight) }
-        ensures fault { IfErr result (λ fault. fault ≡ TableFault.TotalTooLarge) }
-    {
         if weight > MAX_TOTAL - self.total {
             return Err(TableFault::TotalTooLarge);
         }
-        self.add_within(key, weight);
+        self.add_within(key.bytes(), weight);
         Ok(())
     }
 
-    /// [`add_bytes`](Table::add_bytes) where the total stays at most [`MAX_TOTAL`], so that nothing
-    /// can be refused.
+    /// [`add`](Table::add) of the key with these bytes, where the total stays at most
+    /// [`MAX_TOTAL`], so that nothing can be refused.
     pub fn add_within(&mut self, key: &[u8], weight: u64)
         requires { self.old.total + weight ≤ max_total }
         ensures { self.new ≡ grid_with self.old (key.now, weight) }

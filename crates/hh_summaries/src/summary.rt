@@ -217,34 +217,14 @@ impl Summary {
             → weight ≤ least_counter self.old.counters
             → self.old.total + weight ≤ max_total → IsOk result }
     {
-        self.add_bytes(key.bytes(), weight)
-    }
-
-    /// [`add`](Summary::add) of the key with these bytes, 1 to 4,096 of them.
-    pub fn add_bytes(&mut self, key: &[u8], weight: u64) -> Result<(), SummaryFault>
-        requires key { (0 < length key.now) × (length key.now ≤ max_key_len) }
-        requires positive { 0 < weight }
-        ensures added { OnOk result (self.new ≡ sketch_with self.old (key.now, weight)) }
-        ensures unchanged { OnErr result (self.new ≡ self.old) }
-        ensures too_large { IsErrOf result SummaryFault.TotalTooLarge
-            ↔ (max_total < self.old.total + weight) }
-        ensures faults { IfErr result IsAddFault }
-
-        // nothing grows where the key has a counter, or k do and none is below the weight
-        ensures known { 0 < weight_of key.now self.old.counters
-            → self.old.total + weight ≤ max_total → IsOk result }
-        ensures least { length self.old.counters ≡ self.old.k
-            → weight ≤ least_counter self.old.counters
-            → self.old.total + weight ≤ max_total → IsOk result }
-    {
         if weight > MAX_TOTAL - self.total {
             return Err(SummaryFault::TotalTooLarge);
         }
-        Ok(self.add_within(key, weight)?)
+        Ok(self.add_within(key.bytes(), weight)?)
     }
 
-    /// [`add_bytes`](Summary::add_bytes) where the total stays at most [`MAX_TOTAL`], so that only
-    /// memory can be refused.
+    /// [`add`](Summary::add) of the key with these bytes, 1 to 4,096 of them, where the total stays
+    /// at most [`MAX_TOTAL`], so that only memory can be refused.
     pub fn add_within(&mut self, key: &[u8], weight: u64) -> Result<(), AllocError>
         requires key { (0 < length key.now) × (length key.now ≤ max_key_len) }
         requires positive { 0 < weight }
