@@ -1,7 +1,7 @@
 //! The analysis of a stream: two passes by workers over pieces, and a merge between them.
 
 ghost use Rattle.std.specs.Prelude.{◌≡◌, ◌≢◌, ◌+◌, ◌*◌, ◌≤◌, ◌<◌, ◌↔◌, true};
-ghost use Rattle.std.specs.Prelude.{List, length, map, sum, IfOk, IsErr, IsErrOf, OnErr, OnOk, Err, Ok};
+ghost use Rattle.std.specs.Prelude.{List, length, map, sum, IfOk, IsErr, IsErrOf, OnErr, OnOk, Err};
 ghost use Rattle.hh_stream.specs.Weights.{Entry, max_total, total_of};
 ghost use Rattle.hh_stream.specs.Cuttings.{max_pieces, pieces_of, whole_of};
 ghost use Rattle.hh_stream.specs.Ranges.{in_range};
@@ -86,8 +86,7 @@ fn table_of_cells(options: &Options, total: u64, cells: Vec<u64>) -> Result<Tabl
     Ok(Table::from_cells(family, options.width(), total, cells))
 }
 
-/// The second pass: the weight of each candidate in all items, and the total of all items where
-/// there are candidates.
+/// The second pass: the weight of each candidate in all items.
 fn weigh<R: Threads + Wait + Sync, P: Pieces + Sync, G: Gate + Sync>(
     rt: &R,
     alloc: Global,
@@ -95,17 +94,14 @@ fn weigh<R: Threads + Wait + Sync, P: Pieces + Sync, G: Gate + Sync>(
     gate: &G,
     candidates: &Candidates,
     workers: u64,
-) -> Result<(Vec<u64>, u64), PieceFault>
+) -> Result<Vec<u64>, PieceFault>
     requires some { 0 < length (P.pieces pieces.now) }
     requires few { length (P.pieces pieces.now) ≤ max_pieces }
     requires workers { in_range workers max_workers ≡ true }
     requires few_keys { length candidates.now ≤ max_k }
-    ensures count { IfOk result (λ r. length r.0.items ≡ length candidates.now) }
-    ensures weights { IfOk result (λ r. P.known pieces.now
-        → r.0.items ≡ weights_at candidates.now (whole_of (P.pieces pieces.now))) }
-    ensures total { IfOk result (λ r. P.known pieces.now
-        → 0 < length candidates.now → r.1 ≡ total_of (whole_of (P.pieces pieces.now))) }
-    ensures bounded { IfOk result (λ r. r.1 ≤ max_total) }
+    ensures count { IfOk result (λ weights. length weights.items ≡ length candidates.now) }
+    ensures weights { IfOk result (λ weights. P.known pieces.now
+        → weights.items ≡ weights_at candidates.now (whole_of (P.pieces pieces.now))) }
     ensures refused { IsErrOf result PieceFault.Refused → P.known pieces.now
         → MayRefuse (P.refuses pieces.now) (P.pieces pieces.now) }
 {
@@ -116,8 +112,11 @@ fn weigh<R: Threads + Wait + Sync, P: Pieces + Sync, G: Gate + Sync>(
         candidates,
     };
     match share_work(rt, alloc, &pass, candidates.len(), workers)? {
-        Some(weighed) => Ok(weighed),
-        None => pass.sequential(workers),
+        Some((weights, _)) => Ok(weights),
+        None => {
+            let (counted, _) = pass.sequential(workers)?;
+            Ok(counted)
+        }
     }
 }
 
@@ -155,19 +154,6 @@ fn merge_pieces<R: Threads + Wait + Sync, P: Pieces + Sync, G: Gate + Sync>(
     }
 }
 
-/// Refuses another total than the first pass had, where anything was counted. Only pieces that
-/// changed between the passes come to this.
-fn check_totals(candidates: &Candidates, counted: u64, total: u64) -> Result<(), PieceFault>
-    ensures same { OnOk result (0 < length candidates.now → counted ≡ total) }
-    ensures differs { IsErr result → (0 < length candidates.now) × (counted ≢ total) }
-    ensures refused { IsErr result → result ≡ Err PieceFault.Refused }
-{
-    if !candidates.is_empty() && counted != total {
-        return Err(PieceFault::Refused);
-    }
-    Ok(())
-}
-
 /// The keys above the options' threshold, by a second pass that counts those of the summary.
 fn heavy_keys<R: Threads + Wait + Sync, P: Pieces + Sync, G: Gate + Sync>(
     rt: &R,
@@ -193,8 +179,7 @@ fn heavy_keys<R: Threads + Wait + Sync, P: Pieces + Sync, G: Gate + Sync>(
     let (p, q) = options.threshold();
     let total = summary.total();
     let candidates = Candidates::with_hasher(alloc, summary, options.hash())?;
-    let (weights, counted) = weigh(rt, alloc, pieces, gate, &candidates, options.workers())?;
-    check_totals(&candidates, counted, total)?;
+    let weights = weigh(rt, alloc, pieces, gate, &candidates, options.workers())?;
     Ok(candidates.select(&weights, total, p, q)?)
 }
 
