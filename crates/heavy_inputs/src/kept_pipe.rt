@@ -5,7 +5,7 @@ ghost use Rattle.std.specs.Prelude.{◌≡◌, ◌⊎◌, IfErr, ⊤};
 use heavy_host::Unread;
 use hh_faults::ToolError;
 use hh_pieces::ReadAt;
-use hh_records::retrying::Retrying;
+use hh_stream::retrying::Retrying;
 use std::env;
 use std::fs::{self, File, OpenOptions};
 use std::io::{self, Read, Write};

@@ -3,7 +3,7 @@
 ghost use Rattle.std.specs.Prelude.{◌≡◌, ◌≤◌, ◌<◌, ◌+◌, ◌++◌, ℕ, List, [], drop, length, IfOk, OnOk};
 ghost use Rattle.std.specs.Io.KnownBytes.{Consumes, IsAtEnd};
 
-use hh_records::retrying::read;
+use hh_stream::retrying::read;
 use std::alloc::{AllocError, Global};
 use std::io::{self, Read};
 

@@ -10,7 +10,6 @@ pub mod laws;
 mod layout;
 mod layout_words;
 mod records;
-pub mod retrying;
 mod texts;
 
 pub use decimals::pointed;

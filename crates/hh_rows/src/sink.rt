@@ -5,7 +5,7 @@ ghost use Rattle.std.specs.Io.KnownBytes.{Appends, Keeps, WriteAppends};
 ghost use Rattle.hh_rows.specs.Sinks.{take_fails, took_nothing, TakesFirst};
 
 use hh_faults::WriteFault;
-use hh_records::retrying;
+use hh_stream::retrying;
 use std::io::Write;
 use thiserror::Error;
 

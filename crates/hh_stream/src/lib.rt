@@ -1,4 +1,4 @@
-//! Keys, weighted items, and streams of them.
+//! Keys, weighted items, and streams of them; and reads and writes that are tried again.
 #![tactic(auto)]
 
 mod borrowed_key;
@@ -8,6 +8,7 @@ mod key;
 mod key_hash;
 pub mod laws;
 mod ranges;
+pub mod retrying;
 mod sketch;
 mod stream;
 mod taking;

@@ -1,7 +1,7 @@
 -- An interrupted read consumes nothing, and the buffer keeps its length.
 use Rattle.std.proofs.Common.{◌≡◌, length}
 use Rattle.std.specs.Io.KnownBytes.{Keeps}
-use Rattle.hh_records.proofs.retrying.read.Given as goal
+use Rattle.hh_stream.proofs.retrying.read.Given as goal
 
 abbrev pub invariant-loop : goal.invariant-loop
 invariant-loop g l = (length l.buf ≡ length l.initial.buf)

@@ -1,6 +1,6 @@
 -- An interrupted flush takes nothing.
 use Rattle.std.specs.Io.KnownBytes.{Keeps}
-use Rattle.hh_records.proofs.retrying.flush.Given as goal
+use Rattle.hh_stream.proofs.retrying.flush.Given as goal
 
 abbrev pub invariant-loop : goal.invariant-loop
 invariant-loop g l = Keeps (g.W.Write.contents l.initial.writer) (g.W.Write.contents l.writer)
