@@ -1,5 +1,5 @@
 #!/usr/bin/env python3
-"""docs/LAYERS.md has a row for each crate of crates.txt, in its order: what the crate does, by hand, and what it stands right
+"""docs/LAYERS.md has a row for each crate of crates.txt, in its order: what may stand in it, by hand, and what it stands right
 on, which is made of crates.txt. Compares the table with crates.txt, or writes it.
 
 usage: tests/layers.py [--write]
@@ -50,7 +50,7 @@ class Layers(programs.Checks):
         text, page = (programs.TOP / "crates.txt").read_text(), PAGE.read_text()
         self.check("docs/LAYERS.md is as tests/layers.py --write makes it", page == made(page, crates_of(text)), "not so")
         empty = [name for name, sentence in ROW.findall(page) if not sentence.strip()]
-        self.check("docs/LAYERS.md says what each crate does", not empty, empty)
+        self.check("docs/LAYERS.md says what may stand in each crate", not empty, empty)
         for old, new in DRIFTS_OF_CRATES:
             self.check(f"{old!r} stands once", text.count(old) == 1, text.count(old))
             self.check(f"{new!r} is found", made(page, crates_of(text.replace(old, new))) != page, "not found")
