@@ -20,7 +20,7 @@ STATUSES = {"DEVICE": "ReadFault", "USAGE": "BadK", "REFUSED": "BadRecord", "MEM
 STRUCTURES = {
     "heavy_fault": (FFI / "src" / "fault.rt", "Fault"),
     "heavy_bounds": (FFI / "src" / "room.rt", "Bounds"),
-    "heavy_entry": (CRATES / "hh_saved" / "src" / "layout.rt", "Place"),
+    "heavy_entry": (CRATES / "hh_saved" / "src" / "offsets.rt", "Place"),
     "heavy_layout": (FFI / "src" / "layout.rt", "TextLayout"),
     "heavy_hash": (FFI / "src" / "hash_words.rt", "HashWords"),
     "heavy_info": (FFI / "src" / "info.rt", "Info"),

@@ -10,7 +10,7 @@ use Rattle.json.specs.Find.{get_member}
 use Rattle.json.specs.Json.{Json, object}
 use Rattle.json.specs.Value.{members_of}
 use Rattle.serde_json.specs.Find.{unescape}
-use Rattle.hh_json.specs.Fields.{fields_in, key_of, keys_of, object_in, weight_of, weights_of}
+use Rattle.hh_json.specs.Fields.{fields_in, key_of, keys_of, object_in, weight_text, weights_of}
 use Rattle.hh_json.specs.Laws.{EachMemberHasAPointer, FieldsAreAllOrNone, LastMemberCounts, LinesOfOneObject, PointersGoPartByPart, escaped}
 use Rattle.hh_json.specs.Paths.{follow, parts_of}
 use Rattle.hh_json.proofs.PathFacts.{last-step}
@@ -38,7 +38,7 @@ keys-count j (name ∷ names) = by (key_of j name) (keys_of j names) (keys-count
 
 weights-count : (j : Json) (weight : Option (List ℕ)) → Counts (weights_of j weight) (option_len weight)
 weights-count j None = refl
-weights-count j (Some name) = by (weight_of j name)
+weights-count j (Some name) = by (weight_text j name)
   where
     by : (t : Option (List ℕ)) → Counts (option_map (λ text. text ∷ []) t) 1
     by None = refl

@@ -35,8 +35,8 @@ abbrev pub key_of : Json → List ℕ → Option (List ℕ)
 key_of j name = option_and_then key_text (named name j)
 
 -- the spelling of the number that a name leads to
-abbrev pub weight_of : Json → List ℕ → Option (List ℕ)
-weight_of j name = option_and_then as_number (named name j)
+abbrev pub weight_text : Json → List ℕ → Option (List ℕ)
+weight_text j name = option_and_then as_number (named name j)
 
 -- the texts of all members of a key, where all are there
 abbrev pub keys_of : Json → List (List ℕ) → Option (List (List ℕ))
@@ -46,7 +46,7 @@ keys_of j (name ∷ names) = option_and_then (λ text. option_map (λ texts. tex
 -- the weight's text, as a list of one, or no text where no weight is named
 abbrev pub weights_of : Json → Option (List ℕ) → Option (List (List ℕ))
 weights_of j None = Some []
-weights_of j (Some name) = option_map (λ text. text ∷ []) (weight_of j name)
+weights_of j (Some name) = option_map (λ text. text ∷ []) (weight_text j name)
 
 -- the texts of all members that names lead to, where all are there
 abbrev pub fields_in : List (List ℕ) → Option (List ℕ) → Json → Option (List (List ℕ))

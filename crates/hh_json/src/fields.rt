@@ -9,7 +9,7 @@ ghost use Rattle.csv.specs.Records.{fields_of, partial_of};
 ghost use Rattle.json.specs.Find.{BeginsWith, Finds};
 ghost use Rattle.json.specs.Json.{Json};
 ghost use Rattle.hh_json.specs.Fields.{fields_in, json_fields, key_of, key_text};
-ghost use Rattle.hh_json.specs.Fields.{keys_of, object_in, weight_of};
+ghost use Rattle.hh_json.specs.Fields.{keys_of, object_in, weight_text};
 
 use crate::paths::named;
 use csv::ByteRecord;
@@ -69,9 +69,9 @@ fn key_of<'a>(object: &Element<'_, 'a>, name: &[u8]) -> Option<&'a [u8]>
 }
 
 /// Gives the text of the weight that `name` names.
-fn weight_of<'a>(object: &Element<'_, 'a>, name: &[u8]) -> Option<&'a [u8]>
+fn weight_text<'a>(object: &Element<'_, 'a>, name: &[u8]) -> Option<&'a [u8]>
     ensures { (j : Json) → BeginsWith object.now j
-        → option_map (λ text. text.now) result ≡ weight_of j name.now }
+        → option_map (λ text. text.now) result ≡ weight_text j name.now }
 {
     Some(named(object, name)?.as_number()?.as_bytes())
 }
@@ -131,7 +131,7 @@ fn push_members<N: MemberName>(
     let Some(name) = weight else {
         return Ok(true);
     };
-    match weight_of(object, name) {
+    match weight_text(object, name) {
         Some(text) => {
             fields.push_field(text)?;
             Ok(true)

@@ -2,7 +2,7 @@
 use Rattle.std.specs.Prelude.{◌≡◌, ℕ, All, List, map}
 use Rattle.hh_summaries.specs.Counters.{SummaryView}
 use Rattle.hh_saved.specs.Sizes.{LiesIn, entry_in}
-use Rattle.hh_saved.specs.declared.layout.Place.{Place}
+use Rattle.hh_saved.specs.declared.offsets.Place.{Place}
 use Rattle.hh_commands.specs.Files.{HoldsSummary}
 
 -- the file holds a summary, and its entries are those at these places, by rising key; each lies within the file

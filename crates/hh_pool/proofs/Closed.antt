@@ -16,7 +16,7 @@ use Rattle.hh_summaries.proofs.Weights.{weight_of-le-total_of}
 use Rattle.hh_countmin.specs.Family.{Coefficients}
 use Rattle.hh_countmin.specs.Table.{at_cell, cell_sum, table_of}
 use Rattle.hh_countmin.specs.Laws.{CellsAreCellSums}
-use Rattle.hh_shared.specs.Tally.{cell_total, sum_at, IsDistinctBelow, HasAllBelow}
+use Rattle.hh_shared.specs.Numbers.{cell_total, sum_at, IsDistinctBelow, HasAllBelow}
 use Rattle.hh_shared.specs.Seats.{Holding}
 use Rattle.hh_pool.specs.Settings.{Settings}
 use Rattle.hh_pool.specs.Passes.{summaries_at, AreFirstPasses, AreSecondPasses, AreSummaries, HaveTaken}

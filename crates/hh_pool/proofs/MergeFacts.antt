@@ -3,8 +3,8 @@ use Rattle.std.proofs.Common.{◌≡◌, ◌<◌, ◌∙◌, ℕ, List, [], Resu
 use Rattle.hh_summaries.specs.Counters.{SummaryView}
 use Rattle.hh_summaries.specs.declared.fault.SummaryFault.{SummaryFault}
 use Rattle.hh_summaries.specs.declared.fault.SummaryFault.TheVariants as fault
-use Rattle.hh_shared.specs.Tally.{times, IsDistinctBelow}
-use Rattle.hh_shared.proofs.Tallies.{times-append, times-here}
+use Rattle.hh_shared.specs.Numbers.{times, IsDistinctBelow}
+use Rattle.hh_shared.proofs.NumberFacts.{times-append, times-here}
 use Rattle.hh_pool.specs.Trees.{Refuses, merge_both, no_sketch, tree_result}
 use Rattle.hh_workers.specs.Trees.{MergeTree, Piece, Merge, leaves}
 use Rattle.hh_workers.specs.Trees.{MergeTree, Piece, Merge, leaves}

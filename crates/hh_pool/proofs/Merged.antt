@@ -8,12 +8,12 @@ use Rattle.hh_stream.specs.Cuttings.{whole_of}
 use Rattle.hh_summaries.specs.Counters.{SummaryView, sketch_of, merge_of, misra_gries, IsHonest}
 use Rattle.hh_summaries.specs.declared.fault.SummaryFault.{SummaryFault}
 use Rattle.hh_counters.specs.Laws.{MisraGriesIsHonest, JoinOfHonestIsHonest}
-use Rattle.hh_shared.specs.Tally.{times}
+use Rattle.hh_shared.specs.Numbers.{times}
 use Rattle.hh_pool.specs.Trees.{merge_both, merge_result, no_sketch, tree_result, tree_value}
 use Rattle.hh_workers.specs.Trees.{MergeTree, Piece, Merge, IsMergeTree, leaves}
 use Rattle.hh_pool.specs.Laws.{TreesMergeSummaries}
 use Rattle.hh_pool.specs.Outcomes.{IsMerged}
-use Rattle.hh_shared.proofs.Tallies.{times-here}
+use Rattle.hh_shared.proofs.NumberFacts.{times-here}
 use Rattle.hh_workers.proofs.LeafFacts.{at-left, at-right, distinct-leaves, length_leaves, sum-leaves}
 use Rattle.hh_pool.proofs.ValueFacts.{IsMergeOf, merge-of}
 

@@ -10,9 +10,9 @@ use Rattle.std.proofs.lemmas.List.Sorted.{All-permutation, IsPermutation-map, su
 use Rattle.std.proofs.lemmas.List.Sums.{count_by_more_yes}
 use Rattle.std.proofs.lemmas.Map.Keys.{ge_from_not_lt}
 use Rattle.hh_summaries.specs.Counters.{SummaryView}
-use Rattle.hh_shared.specs.Tally.{times, IsDistinctBelow, HasAllBelow}
+use Rattle.hh_shared.specs.Numbers.{times, IsDistinctBelow, HasAllBelow}
 use Rattle.hh_pool.specs.Trees.{no_sketch}
-use Rattle.hh_shared.proofs.Tallies.{all-length, times-append}
+use Rattle.hh_shared.proofs.NumberFacts.{all-length, times-append}
 
 -- how often a number stands in the list up to its place, and in the whole list
 up_to : (xs : List ℕ) (k j : ℕ) → k < length xs → get_or xs k 0 ≡ j

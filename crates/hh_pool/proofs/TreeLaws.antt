@@ -6,11 +6,11 @@ use Rattle.hh_stream.specs.Weights.{Entry, total_of}
 use Rattle.hh_stream.specs.Cuttings.{whole_of}
 use Rattle.hh_summaries.specs.Counters.{Counters, IsHonest, misra_gries}
 use Rattle.hh_counters.specs.Laws.{MisraGriesIsHonest, JoinOfHonestIsHonest, HonestInAnyOrder, CondensedPartsReport}
-use Rattle.hh_shared.specs.Tally.{times}
+use Rattle.hh_shared.specs.Numbers.{times}
 use Rattle.hh_pool.specs.Trees.{items_of, tree_value}
 use Rattle.hh_workers.specs.Trees.{MergeTree, Piece, Merge, leaves}
 use Rattle.hh_pool.specs.Laws.{PartsReportByAnyTree, TreesAreHonest}
-use Rattle.hh_shared.proofs.Tallies.{times-here}
+use Rattle.hh_shared.proofs.NumberFacts.{times-here}
 use Rattle.hh_workers.proofs.LeafFacts.{at-left, at-right, distinct-leaves}
 use Rattle.hh_pool.proofs.ValueFacts.{honest-whole}
 

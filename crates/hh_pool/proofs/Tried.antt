@@ -6,13 +6,13 @@ use Rattle.std.specs.Option.{option_map}
 use Rattle.std.proofs.lemmas.Grind.{flat_map-append}
 use Rattle.std.proofs.lemmas.List.Sums.{sum_by-append}
 use Rattle.hh_stream.specs.Weights.{Bytes, Entry, at_key, max_total, weight_of}
-use Rattle.hh_shared.proofs.Tallies.{added-append}
+use Rattle.hh_shared.proofs.NumberFacts.{added-append}
 use Rattle.hh_counters.specs.Counting.{Count, count_of}
 use Rattle.hh_summaries.specs.Report.{weights_at, counts_with}
 use Rattle.hh_summaries.specs.Counters.{SummaryView, sketch_of}
 use Rattle.hh_countmin.specs.Table.{TableView, at_cell, cell_at, cell_sum, table_of}
 use Rattle.hh_countmin.specs.Laws.{CellsAreCellSums}
-use Rattle.hh_shared.specs.Tally.{cell_total, AreDisjoint, IsDistinctBelow}
+use Rattle.hh_shared.specs.Numbers.{cell_total, AreDisjoint, IsDistinctBelow}
 use Rattle.hh_shared.specs.Seats.{Holding, seat_of_both}
 use Rattle.hh_pool.specs.Settings.{Settings}
 use Rattle.hh_pool.specs.Passes.{summaries_at, HaveCounted, HaveTaken, AreFirstPasses, AreSecondPasses}

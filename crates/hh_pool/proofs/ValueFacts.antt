@@ -11,8 +11,8 @@ use Rattle.hh_counters.specs.Laws.{JoinOfHonestIsHonest}
 use Rattle.hh_summaries.specs.declared.fault.SummaryFault.{SummaryFault}
 use Rattle.hh_pool.specs.Trees.{MergesHonestly, items_of, merge_both, no_sketch, tree_result, tree_value}
 use Rattle.hh_workers.specs.Trees.{IsMergeTree, MergeTree, Piece, Merge, leaves}
-use Rattle.hh_shared.specs.Tally.{times}
-use Rattle.hh_shared.proofs.Tallies.{times-append, times-elsewhere, times-here}
+use Rattle.hh_shared.specs.Numbers.{times}
+use Rattle.hh_shared.proofs.NumberFacts.{times-append, times-elsewhere, times-here}
 use Rattle.hh_workers.proofs.LeafFacts.{at-left, at-right, distinct-leaves, sum-leaves}
 use Rattle.hh_workers.proofs.PieceSums.{sum_by-flat_map}
 

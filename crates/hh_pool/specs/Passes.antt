@@ -4,7 +4,7 @@ use Rattle.std.specs.List.Sorted.{IsStrictlyIncreasing}
 use Rattle.hh_stream.specs.Weights.{Bytes, Entry, max_total, total_of, weight_of}
 use Rattle.hh_summaries.specs.Counters.{SummaryView, sketch_of}
 use Rattle.hh_countmin.specs.Table.{cell_sum}
-use Rattle.hh_shared.specs.Tally.{HasAllBelow, IsDistinctBelow, cell_total}
+use Rattle.hh_shared.specs.Numbers.{HasAllBelow, IsDistinctBelow, cell_total}
 use Rattle.hh_shared.specs.Seats.{Holding}
 use Rattle.hh_pool.specs.Settings.{Settings}
 use Rattle.hh_workers.specs.Pieces.{items_at, piece_of}

@@ -3,7 +3,7 @@
 ghost use Rattle.std.specs.Prelude.{◌≡◌, ◌≤◌, ℕ, length, map, sum_by, slice_index_or};
 ghost use Rattle.std.specs.Prelude.{All, Ok, IfOk, IfErr};
 ghost use Rattle.hh_stream.specs.Cuttings.{max_pieces};
-ghost use Rattle.hh_shared.specs.Tally.{times, IsDistinctBelow};
+ghost use Rattle.hh_shared.specs.Numbers.{times, IsDistinctBelow};
 ghost use Rattle.hh_summaries.specs.Faults.{IsMergeFault};
 ghost use Rattle.hh_workers.specs.Plans.{shape};
 ghost use Rattle.hh_pool.specs.Trees.{MergesHonestly, Refuses};

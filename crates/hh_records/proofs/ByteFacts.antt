@@ -13,7 +13,7 @@ use Rattle.csv.specs.declared.parser.State.{State}
 use Rattle.csv.specs.declared.parser.State.TheVariants as st
 use Rattle.hh_stream.specs.Weights.{AreItems, Entry, IsKey, max_key_len, max_total, total_of}
 use Rattle.hh_records.specs.Laws.{TextsAreItems}
-use Rattle.hh_records.specs.Streams.{Fields, item_after, item_of_fields, item_of_pair, item_of_parts, items_from, parts_of, reading_next, weight_of, weight_or_cause}
+use Rattle.hh_records.specs.Streams.{Fields, item_after, item_of_fields, item_of_pair, item_of_parts, items_from, parts_of, reading_next, field_weight, weight_or_cause}
 use Rattle.hh_faults.specs.declared.records.BadRecordCause.{BadRecordCause}
 
 -- ---- records of bytes
@@ -113,13 +113,13 @@ parts_give k o e bytes is = elim (eqb_tells (length k) 0) [
   | inl (empty, _) ↦ absurd (cc (rw empty at is))
   | inr (empty, some) ↦ elim (leb_tells (length k) max_key_len) [
     | inl (short, few) ↦
-        let (key, weight) = pair_is k (weight_or_cause (weight_of o)) e (rw (empty, short) at is) in
+        let (key, weight) = pair_is k (weight_or_cause (field_weight o)) e (rw (empty, short) at is) in
         let lawful : IsKey k = record {
           some = omega (arith, some);
           few = few;
           bytes = λ i lt. All-get_or IsByte k i 0 lt bytes;
         } in
-        (subst IsKey key lawful, some_weight (weight_of o) e.1 weight)
+        (subst IsKey key lawful, some_weight (field_weight o) e.1 weight)
     | inr (short, _) ↦ absurd (cc (rw (empty, short) at is))
   ]
 ]

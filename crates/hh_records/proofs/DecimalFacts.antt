@@ -13,7 +13,7 @@ use Rattle.hh_stream.specs.Weights.{max_total}
 use Rattle.hh_stream.specs.Digits.{is_digit, is_number, value_of}
 use Rattle.hh_records.specs.Decimals.{is_whole, last_digits, point_from, units_at, units_of}
 use Rattle.hh_records.specs.Laws.{PrintedNumbersAreRead}
-use Rattle.hh_records.specs.Streams.{weight_of}
+use Rattle.hh_records.specs.Streams.{field_weight}
 use Rattle.hh_records.proofs.WrittenFacts.{written}
 
 -- ---- digits and points
@@ -55,10 +55,10 @@ number-none (b ∷ f) =
     rw (long, and_right (not (length (b ∷ f) == 0)) false refl) refl
 
 -- with no digits after a point a weight is a whole number
-pub units-whole : (f : List ℕ) → units_of 0 (Some f) ≡ weight_of (Some f)
+pub units-whole : (f : List ℕ) → units_of 0 (Some f) ≡ field_weight (Some f)
 units-whole f = by (point_from 0 f) refl
   where
-    by : (o : Option ℕ) → point_from 0 f ≡ o → units_at 0 f o ≡ weight_of (Some f)
+    by : (o : Option ℕ) → point_from 0 f ≡ o → units_at 0 f o ≡ field_weight (Some f)
     by None e =
         let one : value_of f * 10 ^ 0 ≡ value_of f = omega arith in
         rw one refl

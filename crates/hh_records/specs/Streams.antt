@@ -24,9 +24,9 @@ weight_or_cause None = Err cause.BadWeight
 weight_or_cause (Some w) = if w == 0 then Err cause.ZeroWeight else Ok w
 
 -- the weight that a field writes, and 1 where there is none
-abbrev pub weight_of : Option (List ℕ) → Option ℕ
-weight_of None = Some 1
-weight_of (Some f) = if is_weight f then Some (value_of f) else None
+abbrev pub field_weight : Option (List ℕ) → Option ℕ
+field_weight None = Some 1
+field_weight (Some f) = if is_weight f then Some (value_of f) else None
 
 -- the key and the weight's field of a record, or nothing where it hasn't the fields for them
 abbrev pub Parts : Type 0
@@ -52,7 +52,7 @@ item_of_key k w =
 
 abbrev pub item_of_parts : Parts → Result Entry BadRecordCause
 item_of_parts None = Err cause.FieldCount
-item_of_parts (Some p) = item_of_key p.0 (weight_of p.1)
+item_of_parts (Some p) = item_of_key p.0 (field_weight p.1)
 
 -- an item after a total of t, unless the total is too large with it
 abbrev pub item_after : ℕ → Result Entry BadRecordCause → Result Entry BadRecordCause

@@ -10,7 +10,7 @@ use Rattle.hh_stream.specs.Weights.{Entry}
 use Rattle.hh_summaries.specs.Counters.{SummaryView}
 use Rattle.hh_saved.specs.declared.format.Version.{Version}
 use Rattle.hh_saved.specs.declared.saved.Saved.TheVariants.{Counters}
-use Rattle.hh_saved.specs.declared.layout.Place.{Place}
+use Rattle.hh_saved.specs.declared.offsets.Place.{Place}
 use Rattle.hh_saved.specs.Reading.{version_at}
 use Rattle.hh_saved.specs.Sizes.{LiesIn, entry_in}
 use Rattle.hh_saved.specs.Spelling.{Spells, entry_bytes, len_width, spelling_of}

@@ -1,7 +1,7 @@
 -- How many bytes a saved value has, and where they lie.
 use Rattle.std.specs.Prelude.{ℕ, ◌+◌, ◌*◌, ◌≤◌, List, length, take, drop}
 use Rattle.hh_stream.specs.Weights.{Entry}
-use Rattle.hh_saved.specs.declared.layout.Place.{Place}
+use Rattle.hh_saved.specs.declared.offsets.Place.{Place}
 
 -- the most bytes of a summary of k counters in version 2, whose keys have at most m bytes
 abbrev pub most_summary_bytes : ℕ → ℕ → ℕ

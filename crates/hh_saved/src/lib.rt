@@ -7,14 +7,14 @@
 
 mod format;
 pub mod laws;
-mod layout;
+mod offsets;
 mod reading;
 mod saved;
 mod writing;
 
 pub use format::Version;
 pub use hh_faults::SavedFault;
-pub use layout::{Place, places};
+pub use offsets::{Place, places};
 pub use reading::read;
 pub use saved::Saved;
 pub use writing::write;

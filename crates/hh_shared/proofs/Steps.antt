@@ -9,10 +9,10 @@ use lib.ListN.{get_elem?}
 use lib.Seq.{set-get_or}
 use Rattle.atomic_table.specs.Table.{Me, keeps, Allows, Splits, Joins}
 use Rattle.atomic_table.proofs.Lists.{at_set, at_snoc, set_again}
-use Rattle.hh_shared.specs.Tally.{times, cell_total, IsDistinctBelow, HasAllBelow, sum_at}
+use Rattle.hh_shared.specs.Numbers.{times, cell_total, IsDistinctBelow, HasAllBelow, sum_at}
 use Rattle.hh_shared.specs.declared.rule.Lists.{Lists}
 use Rattle.hh_shared.specs.Rule.{lists, newcomer, FitsSeat, IsTallied, Claims, Adds, Looks, both_lists, spent_seat}
-use Rattle.hh_shared.proofs.Tallies.{sum_by-replace, at-le-sum_by, two-le-sum_by, sum_by-only, times-append, times-here, times-push, times-push_other, added-append, added-push, added-push_other}
+use Rattle.hh_shared.proofs.NumberFacts.{sum_by-replace, at-le-sum_by, two-le-sum_by, sum_by-only, times-append, times-here, times-push, times-push_other, added-append, added-push, added-push_other}
 
 -- how often all seats claimed a number
 abbrev all_claimed : ℕ → List Lists → ℕ

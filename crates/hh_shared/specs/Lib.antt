@@ -1,3 +1,3 @@
-pub mod Tally
+pub mod Numbers
 pub mod Seats
 pub mod Rule

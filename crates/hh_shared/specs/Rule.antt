@@ -4,7 +4,7 @@ use mathlib.Core.Option.{some}
 use lib.ListN.{get_elem?}
 use Rattle.atomic_table.specs.Seated.{TableId}
 use Rattle.atomic_table.specs.Table.{Me}
-use Rattle.hh_shared.specs.Tally.{times, cell_total, IsDistinctBelow}
+use Rattle.hh_shared.specs.Numbers.{times, cell_total, IsDistinctBelow}
 use Rattle.hh_shared.specs.Seats.{Holding}
 use Rattle.hh_shared.specs.declared.rule.Lists.{Lists}
 

@@ -2,7 +2,7 @@
 
 ghost use Rattle.std.specs.Prelude.{◌≡◌, ◌+◌, ◌<◌, ◌≤◌, ◌↔◌, ◌∷◌, ◌++◌, ℕ, [], length, slice_index};
 ghost use Rattle.std.specs.Prelude.{vec_len, IsOk, IfOk, IsTrue, MatchBool};
-ghost use Rattle.hh_shared.specs.Tally.{sum_at, IsDistinctBelow, HasAllBelow, AreDisjoint};
+ghost use Rattle.hh_shared.specs.Numbers.{sum_at, IsDistinctBelow, HasAllBelow, AreDisjoint};
 ghost use Rattle.hh_shared.specs.Seats.{max_claims, max_cells, fresh, seat_of_both};
 
 use crate::rule::{Add, Claim, Lists, Look, SplitOff, TakeIn, Tallied};

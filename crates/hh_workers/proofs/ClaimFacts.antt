@@ -6,8 +6,8 @@ use Rattle.std.specs.List.Sorted.{IsStrictlyIncreasing}
 use Rattle.std.proofs.lemmas.Bool.{cases_lt}
 use mathlib.Core.Logic.{dite}
 use native.Mathlib.Decide.{ℕ_discrete}
-use Rattle.hh_shared.proofs.Tallies.{times-append, times-push, times-push_other}
-use Rattle.hh_shared.specs.Tally.{times, IsDistinctBelow}
+use Rattle.hh_shared.proofs.NumberFacts.{times-append, times-push, times-push_other}
+use Rattle.hh_shared.specs.Numbers.{times, IsDistinctBelow}
 use Rattle.hh_shared.specs.Seats.{Holding, seat_of_both}
 use Rattle.hh_workers.specs.Workers.{HasEach, HasTried}
 use Rattle.hh_workers.specs.Workers.{HasTriedUpTo}

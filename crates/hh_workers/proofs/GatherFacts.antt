@@ -5,7 +5,7 @@ use Rattle.std.proofs.lemmas.Grind.{flat_map-append}
 use Rattle.hh_stream.specs.Weights.{Entry, max_total, total_of}
 use Rattle.hh_stream.specs.Taking.{Takes}
 use Rattle.hh_stream.proofs.TakingFacts.{follows}
-use Rattle.hh_shared.specs.Tally.{AreDisjoint, IsDistinctBelow}
+use Rattle.hh_shared.specs.Numbers.{AreDisjoint, IsDistinctBelow}
 use Rattle.hh_workers.specs.Gathered.{Gathers, GathersAll}
 use Rattle.hh_workers.specs.Pieces.{MayRefuse, items_at, piece_of}
 use Rattle.hh_workers.specs.Workers.{HasEach}

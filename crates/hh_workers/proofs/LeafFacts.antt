@@ -1,7 +1,7 @@
 -- The leaves of a tree.
 use Rattle.std.proofs.Common.{◌≡◌, ◌+◌, ◌<◌, ℕ, List, [], length, arith, slice_index_or, sum_by}
-use Rattle.hh_shared.specs.Tally.{times, IsDistinctBelow, HasAllBelow}
-use Rattle.hh_shared.proofs.Tallies.{all-length, sum_by-all, times-append, times-here}
+use Rattle.hh_shared.specs.Numbers.{times, IsDistinctBelow, HasAllBelow}
+use Rattle.hh_shared.proofs.NumberFacts.{all-length, sum_by-all, times-append, times-here}
 use Rattle.hh_workers.specs.Trees.{IsMergeTree, MergeTree, Piece, Merge, leaves}
 
 -- how many merges a tree has

@@ -5,12 +5,12 @@ use Rattle.std.proofs.lemmas.List.{take-append-drop, take_more}
 use Rattle.std.proofs.Common.{drop-cons, get_or-set_other, get_or-set_same}
 use Rattle.std.proofs.Math.ListN.{length-set}
 use Rattle.hh_workers.specs.Trees.{IsMergeTree, MergeTree, leaves}
-use Rattle.hh_shared.specs.Tally.{times, IsDistinctBelow}
+use Rattle.hh_shared.specs.Numbers.{times, IsDistinctBelow}
 use Rattle.hh_workers.specs.PlanTexts.{AreMarked, AreNumbersWrong, NumbersRefused, PlanRefused, SpellsTree}
 use Rattle.hh_faults.specs.declared.error.ToolError.{ToolError}
 use Rattle.hh_faults.specs.declared.error.ToolError.TheVariants as tool
 use Rattle.hh_faults.specs.declared.error.TreeFault.TheVariants as bad
-use Rattle.hh_shared.proofs.Tallies.{distinct-push, times-push, times-push_other}
+use Rattle.hh_shared.proofs.NumberFacts.{distinct-push, times-push, times-push_other}
 
 -- a list at a place
 pub split-at : (xs : List ℕ) (n d : ℕ) → n < length xs → xs ≡ take n xs ++ get_or xs n d ∷ drop (n + 1) xs

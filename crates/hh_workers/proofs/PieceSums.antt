@@ -7,8 +7,8 @@ use Rattle.std.proofs.lemmas.Grind.{flat_map-append}
 use Rattle.std.proofs.lemmas.Bool.{cases_lt}
 use Rattle.hh_stream.specs.Weights.{Entry, max_total, total_of}
 use Rattle.hh_stream.specs.Cuttings.{whole_of}
-use Rattle.hh_shared.specs.Tally.{AreDisjoint, IsDistinctBelow, HasAllBelow, times}
-use Rattle.hh_shared.proofs.Tallies.{sum_by-all, sum_by-distinct, times-append}
+use Rattle.hh_shared.specs.Numbers.{AreDisjoint, IsDistinctBelow, HasAllBelow, times}
+use Rattle.hh_shared.proofs.NumberFacts.{sum_by-all, sum_by-distinct, times-append}
 use Rattle.hh_workers.specs.Pieces.{MayRefuse, items_at, piece_of}
 
 module _ {X A : Type 0} where

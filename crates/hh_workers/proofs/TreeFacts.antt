@@ -2,8 +2,8 @@
 use Rattle.std.proofs.Common.{◌≡◌, ◌+◌, ◌-◌, ◌/◌, ◌≤◌, ◌∷◌, ℕ, zero, suc, [], zero-add, arith, min}
 use Rattle.std.proofs.lemmas.Bool.Decides.{nat_tests}
 use Rattle.hh_workers.specs.Trees.{MergeTree, Piece, Merge, IsBalanced, IsMergeTree, chain_of, leaves}
-use Rattle.hh_shared.specs.Tally.{times}
-use Rattle.hh_shared.proofs.Tallies.{times-append}
+use Rattle.hh_shared.specs.Numbers.{times}
+use Rattle.hh_shared.proofs.NumberFacts.{times-append}
 
 -- 1 from b on
 abbrev from : ℕ → ℕ → ℕ

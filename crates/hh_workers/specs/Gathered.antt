@@ -3,7 +3,7 @@ use Rattle.std.specs.Prelude.{◌≡◌, ℕ, ◌<◌, ◌≤◌, All, List, len
 use Rattle.hh_stream.specs.Cuttings.{whole_of}
 use Rattle.hh_stream.specs.Taking.{HaveSameSums}
 use Rattle.hh_stream.specs.Weights.{Entry, max_total, total_of}
-use Rattle.hh_shared.specs.Tally.{IsDistinctBelow}
+use Rattle.hh_shared.specs.Numbers.{IsDistinctBelow}
 use Rattle.hh_workers.specs.Pieces.{items_at}
 
 -- the items are those of the pieces with these numbers, each of which was taken once

@@ -3,7 +3,7 @@ use Rattle.std.specs.Prelude.{◌≡◌, ℕ, ◌+◌, ◌-◌, ◌*◌, ◌<◌
 use Rattle.std.specs.Option.{option_and_then}
 use Rattle.std.specs.Fmt.{decimal}
 use Rattle.hh_stream.specs.Digits.{is_digit}
-use Rattle.hh_shared.specs.Tally.{times, IsDistinctBelow}
+use Rattle.hh_shared.specs.Numbers.{times, IsDistinctBelow}
 use Rattle.hh_workers.specs.Trees.{MergeTree, Piece, Merge, leaves}
 use Rattle.hh_faults.specs.declared.error.ToolError.{ToolError}
 use Rattle.hh_faults.specs.declared.error.ToolError.TheVariants as tool

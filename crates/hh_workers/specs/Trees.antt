@@ -2,7 +2,7 @@
 use Rattle.std.specs.Prelude.{◌≡◌, ℕ, zero, suc, ◌+◌, ◌-◌, ◌/◌, ◌<◌, ◌≤◌, List, [], ◌∷◌, ◌++◌, refl}
 use Rattle.std.proofs.Common.{sym, ap, ◌∙◌}
 use base.Stored.{Coded, Gv, gnil, gnum, gcons}
-use Rattle.hh_shared.specs.Tally.{times}
+use Rattle.hh_shared.specs.Numbers.{times}
 
 -- a piece, or two trees whose results are merged
 pub data MergeTree : Type 0 where

@@ -3,7 +3,7 @@ use Rattle.std.specs.Prelude.{◌≡◌, ℕ, ◌+◌, ◌^◌, ◌<◌, All, Li
 use Rattle.std.specs.Borrow.{RattleType}
 use Rattle.std.specs.List.Sorted.{IsStrictlyIncreasing}
 use Rattle.std.specs.Thread.{IsSend, IsSync}
-use Rattle.hh_shared.specs.Tally.{HasAllBelow, IsDistinctBelow, times, sum_at}
+use Rattle.hh_shared.specs.Numbers.{HasAllBelow, IsDistinctBelow, times, sum_at}
 use Rattle.hh_shared.specs.Seats.{Holding, Sums, fresh}
 use Rattle.hh_stream.specs.declared.taking.PieceFault.{PieceFault}
 use Rattle.hh_stream.specs.declared.taking.PieceFault.TheVariants as fault

@@ -3,7 +3,7 @@
 ghost use Rattle.std.specs.Prelude.{◌≡◌, ◌<◌, ◌++◌, ℕ, false, true, length, map, slice_index_or};
 ghost use Rattle.std.specs.Prelude.{IfOk, IfErr, IfSome, IfNone, OnOk, option_map};
 ghost use Rattle.hh_workers.specs.Plans.{open_of, reading_of, shape};
-ghost use Rattle.hh_shared.specs.Tally.{IsDistinctBelow};
+ghost use Rattle.hh_shared.specs.Numbers.{IsDistinctBelow};
 ghost use Rattle.hh_workers.specs.PlanTexts.{AreMarked, NumbersRefused, PlanRefused, SyntaxRefused};
 ghost use Rattle.hh_workers.specs.PlanTexts.{SpellsTree, after_tree, at_start, read_tree, step};
 ghost use Rattle.hh_workers.specs.Trees.{IsMergeTree, leaves};

@@ -3,7 +3,7 @@
 ghost use Rattle.std.specs.Prelude.{◌≡◌, ◌+◌, ◌<◌, ◌≤◌, ◌++◌, ◌∷◌, [], ℕ, List, length, slice_index};
 ghost use Rattle.std.specs.Prelude.{IfOk, IsErrOf};
 ghost use Rattle.std.specs.List.Sorted.{IsStrictlyIncreasing};
-ghost use Rattle.hh_shared.specs.Tally.{AreDisjoint, IsDistinctBelow, cell_total};
+ghost use Rattle.hh_shared.specs.Numbers.{AreDisjoint, IsDistinctBelow, cell_total};
 ghost use Rattle.hh_shared.specs.Seats.{Sums, Holding, fresh, seat_of_both};
 ghost use Rattle.hh_workers.specs.Workers.{AreSumsFor, HasEach};
 ghost use Rattle.hh_workers.specs.Workers.{HasTriedUpTo};

@@ -1,7 +1,7 @@
 use Rattle.std.proofs.Common.{◌≡◌, ◌*◌, ◌∙◌, ℕ, length, ap, arith, rules, IsErrOf}
 use Rattle.hh_stream.specs.Cuttings.{whole_of}
 use Rattle.hh_countmin.specs.Family.{Coefficients}
-use Rattle.hh_shared.proofs.Tallies.{all-length}
+use Rattle.hh_shared.proofs.NumberFacts.{all-length}
 use Rattle.hh_pool.specs.Settings.{Settings}
 use Rattle.hh_stream.specs.declared.taking.PieceFault.TheVariants as fault
 use Rattle.hh_pool.proofs.Closed.{closed_table, each_summary}

@@ -1,5 +1,5 @@
 use Rattle.std.proofs.Common.{take}
-use Rattle.hh_shared.specs.Tally.{IsDistinctBelow}
+use Rattle.hh_shared.specs.Numbers.{IsDistinctBelow}
 use Rattle.hh_workers.specs.PlanTexts.{AreMarked}
 use Rattle.hh_workers.proofs.parsing.marks_of.Given as goal
 

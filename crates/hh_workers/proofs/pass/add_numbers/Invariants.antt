@@ -1,5 +1,5 @@
 use Rattle.std.proofs.Common.{◌≡◌, ◌+◌, ℕ, take, get_or}
-use Rattle.hh_shared.specs.Tally.{cell_total}
+use Rattle.hh_shared.specs.Numbers.{cell_total}
 use Rattle.hh_workers.proofs.pass.add_numbers.Given as goal
 
 abbrev pub invariant-loop-cell : goal.invariant-loop-cell

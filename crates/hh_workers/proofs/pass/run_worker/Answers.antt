@@ -1,5 +1,5 @@
 use Rattle.std.proofs.Common.{◌∙◌, ◌++◌, ◌∷◌, [], ap, subst}
-use Rattle.hh_shared.specs.Tally.{IsDistinctBelow}
+use Rattle.hh_shared.specs.Numbers.{IsDistinctBelow}
 use Rattle.hh_workers.proofs.ClaimFacts.{one_more_claimed, one_more_met}
 use Rattle.hh_workers.proofs.pass.run_worker.Goals as goal
 

@@ -1,5 +1,5 @@
 use Rattle.std.proofs.Common.{◌∙◌, length, arith}
-use Rattle.hh_shared.proofs.Tallies.{all-length}
+use Rattle.hh_shared.proofs.NumberFacts.{all-length}
 use Rattle.hh_stream.specs.Cuttings.{whole_of}
 use Rattle.hh_countmin.proofs.Tables.{same_table}
 use Rattle.hh_workers.specs.Pieces.{items_at}

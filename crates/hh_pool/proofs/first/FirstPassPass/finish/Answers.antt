@@ -1,5 +1,5 @@
 use Rattle.std.proofs.Common.{◌+◌, ◌∙◌, length, get_or, ap, arith}
-use Rattle.hh_shared.specs.Tally.{cell_total}
+use Rattle.hh_shared.specs.Numbers.{cell_total}
 use Rattle.hh_pool.proofs.Tried.{first_ends, first_taken}
 use Rattle.hh_pool.proofs.Held.{claim-at_cell}
 use Rattle.hh_pool.proofs.first.FirstPassPass.finish.Goals as goal

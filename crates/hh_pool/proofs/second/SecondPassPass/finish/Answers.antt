@@ -1,5 +1,5 @@
 use Rattle.std.proofs.Common.{◌+◌, ◌∙◌, get_or, ap, arith}
-use Rattle.hh_shared.specs.Tally.{cell_total}
+use Rattle.hh_shared.specs.Numbers.{cell_total}
 use Rattle.hh_pool.proofs.Tried.{second_counted, second_ends}
 use Rattle.hh_pool.proofs.Held.{claim-at_number}
 use Rattle.hh_pool.proofs.second.SecondPassPass.finish.Goals as goal

@@ -1,6 +1,6 @@
 use Rattle.std.proofs.Common.{◌<◌, [], ◌∷◌, length, length-append, sym, ap, ◌∙◌, arith}
 use Rattle.hh_shared.proofs.Steps.{claim_step}
-use Rattle.hh_shared.proofs.Tallies.{distinct-le}
+use Rattle.hh_shared.proofs.NumberFacts.{distinct-le}
 use Rattle.hh_shared.proofs.sums.SharedSums.claim.Goals as goal
 
 pub fetch_or-found-requires : goal.fetch_or-found-requires

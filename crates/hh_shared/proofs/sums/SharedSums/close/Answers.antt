@@ -2,7 +2,7 @@ use Rattle.std.proofs.Common.{rules, arith, ◌≡◌, ℕ, zero, suc, ◌+◌, 
 use Rattle.std.proofs.lemmas.List.{get_or_push, get_or_append_left}
 use mathlib.Core.Option.{some, some-injective, some-ne-none}
 use lib.ListN.{get_elem?}
-use Rattle.hh_shared.specs.Tally.{HasAllBelow, sum_at}
+use Rattle.hh_shared.specs.Numbers.{HasAllBelow, sum_at}
 use Rattle.hh_shared.proofs.Steps.{closes}
 use Rattle.hh_shared.proofs.sums.SharedSums.close.Goals as goal
 

@@ -1,7 +1,7 @@
 use Rattle.std.proofs.Common.{◌≡◌, ℕ, List, sym, ap, ◌∙◌, subst}
 use Rattle.std.proofs.lemmas.Bool.Decides.{Decides-eqb}
-use Rattle.hh_shared.specs.Tally.{IsDistinctBelow, HasAllBelow}
-use Rattle.hh_shared.proofs.Tallies.{distinct-all, all-length}
+use Rattle.hh_shared.specs.Numbers.{IsDistinctBelow, HasAllBelow}
+use Rattle.hh_shared.proofs.NumberFacts.{distinct-all, all-length}
 use Rattle.hh_shared.proofs.sums.SharedSums.holds_all.Goals as goal
 
 pub returns : goal.returns

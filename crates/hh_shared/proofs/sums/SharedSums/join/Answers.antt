@@ -1,7 +1,7 @@
 use Rattle.std.proofs.Common.{length, length-append, sym, ap, ◌∙◌, arith}
-use Rattle.hh_shared.specs.Tally.{times}
+use Rattle.hh_shared.specs.Numbers.{times}
 use Rattle.hh_shared.proofs.Steps.{join_step, look_step}
-use Rattle.hh_shared.proofs.Tallies.{distinct-le, times-append}
+use Rattle.hh_shared.proofs.NumberFacts.{distinct-le, times-append}
 use Rattle.hh_shared.proofs.sums.SharedSums.join.Goals as goal
 
 pub join_seat-requires : goal.join_seat-requires

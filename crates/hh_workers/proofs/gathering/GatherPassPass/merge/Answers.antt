@@ -1,7 +1,7 @@
 use Rattle.std.proofs.Common.{◌++◌}
 use Rattle.std.proofs.lemmas.Result.{IfOk-weaker}
 use Rattle.hh_shared.specs.Seats.{Holding}
-use Rattle.hh_shared.specs.Tally.{AreDisjoint}
+use Rattle.hh_shared.specs.Numbers.{AreDisjoint}
 use Rattle.hh_workers.specs.Gathered.{Gathers}
 use Rattle.hh_workers.proofs.GatherFacts.{both_refused, gathers_both}
 use Rattle.hh_workers.proofs.gathering.GatherPassPass.merge.Goals as goal

@@ -9,7 +9,7 @@ use Rattle.std.proofs.Math.Nat.{zero-mul, one-mul}
 use Rattle.std.proofs.Math.Seq.{take-length}
 use mathlib.Core.Option.{some, some-injective, some-ne-none}
 use lib.ListN.{get_elem?}
-use Rattle.hh_shared.specs.Tally.{times, cell_total, IsDistinctBelow, HasAllBelow}
+use Rattle.hh_shared.specs.Numbers.{times, cell_total, IsDistinctBelow, HasAllBelow}
 
 module _ {A : Type 0} where
   -- where one element is replaced, the sum changes by what that element adds

@@ -1,11 +1,11 @@
 use Rattle.std.proofs.Common.{◌≡◌, ◌+◌, ◌<◌, length, take, drop, ap, sym, arith}
 use Rattle.std.specs.List.{flat_map}
 use Rattle.hh_stream.specs.Weights.{Bytes, Entry}
-use Rattle.hh_saved.specs.declared.layout.Place.{Place}
+use Rattle.hh_saved.specs.declared.offsets.Place.{Place}
 use Rattle.hh_saved.specs.Sizes.{entry_in}
 use Rattle.hh_saved.specs.Spelling.{entry_bytes}
 use Rattle.hh_saved.proofs.PlaceFacts.{key_lies, next_begins, next_entry, next_within, place_listed, place_within}
-use Rattle.hh_saved.proofs.layout.places_in.Goals as goal
+use Rattle.hh_saved.proofs.offsets.places_in.Goals as goal
 
 pub overflow_add-start : goal.overflow_add-start
 overflow_add-start c =

@@ -4,7 +4,7 @@ use Rattle.hh_faults.specs.declared.saved.SavedFault.{SavedFault}
 use Rattle.hh_saved.specs.Reading.{version_at}
 use Rattle.hh_saved.proofs.Fields.{ok_is}
 use Rattle.hh_saved.proofs.PlaceFacts.{version_named}
-use Rattle.hh_saved.proofs.layout.places.Goals as goal
+use Rattle.hh_saved.proofs.offsets.places.Goals as goal
 
 pub unreachable-requires : goal.unreachable-requires
 unreachable-requires c =
