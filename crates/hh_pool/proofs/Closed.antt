@@ -19,7 +19,7 @@ use Rattle.hh_countmin.specs.Laws.{CellsAreCellSums}
 use Rattle.hh_shared.specs.Numbers.{cell_total, sum_at, IsDistinctBelow, HasAllBelow}
 use Rattle.hh_shared.specs.Seats.{Holding}
 use Rattle.hh_pool.specs.Settings.{Settings}
-use Rattle.hh_pool.specs.Passes.{summaries_at, AreFirstPasses, AreSecondPasses, AreSummaries, HaveTaken}
+use Rattle.hh_pool.specs.Passes.{summaries_at, AreFirstPasses, AreSecondPasses, AreSummaries}
 use Rattle.hh_workers.specs.Workers.{HasEach}
 use Rattle.hh_workers.specs.Pieces.{items_at, piece_of}
 use Rattle.hh_workers.proofs.PieceSums.{sum_by-all_items}
@@ -55,26 +55,9 @@ closed_cells law pieces xs settings seat kept values whole low p distinct all lo
     ∙ exact (cell_sum family width r c xs) (cell_total (r * width + c) seat.adds) all_items
     (omega (arith, cell_sum-le family width r c xs)))
 
--- so the closed sums, with the total of what was taken, are the parts of the whole table
-pub closed_table : CellsAreCellSums → (pieces : List (List Entry)) (settings : Settings)
-    (seat : Holding) (kept : List (ℕ × SummaryView)) (weight : ℕ) (values : List ℕ)
-    → AreFirstPasses pieces settings seat kept × HaveTaken pieces seat.claims weight
-    → HasEach (length pieces) seat.claims → length values ≡ length settings.family.rows * settings.width
-    → ((cell : ℕ) → cell < length settings.family.rows * settings.width → get_or values cell 0 ≡ sum_at seat.adds cell)
-    → (weight ≡ total_of (whole_of pieces))
-    × (values ≡ (table_of settings.family settings.width (whole_of pieces)).cells)
-closed_table law pieces settings seat kept weight values (p, taken) each long sums =
-    let total : weight ≡ total_of (whole_of pieces) =
-    taken.total ∙ sum_by-all_items (λ (e : Entry). e.1) pieces seat.claims each.distinct each.all in (
-      total,
-      closed_cells law pieces (whole_of pieces) settings seat kept values refl (omega (arith, total, taken.bounded)) p
-          each.distinct each.all long sums,
-    )
-
 -- the closed sums of the second pass are the candidates' weights
 pub closed_weights : (pieces : List (List Entry)) (xs : List Entry) (keys : List Bytes) (seat : Holding)
-    (values : List ℕ) → whole_of pieces ≡ xs → (0 < length keys → total_of xs ≤ max_total)
-    → AreSecondPasses pieces keys seat
+    (values : List ℕ) → whole_of pieces ≡ xs → total_of xs ≤ max_total → AreSecondPasses pieces keys seat
     → IsDistinctBelow (length pieces) seat.claims → HasAllBelow (length pieces) seat.claims
     → length values ≡ length keys → ((cell : ℕ) → cell < length keys → get_or values cell 0 ≡ sum_at seat.adds cell)
     → values ≡ weights_at keys xs
@@ -85,9 +68,8 @@ closed_weights pieces xs keys seat values whole low p distinct all long each =
     let at = slice_get-get_or keys i [] (omega arith) in
     let all_items : cell_total i seat.adds ≡ weight_of key xs =
     p.adds i key at ∙ (sum_by-all_items (at_key key) pieces seat.claims distinct all ∙ ap (weight_of key) whole) in
-    let fits = low (omega (arith, within, long)) in
     each i (omega arith)
-    ∙ (exact (weight_of key xs) (cell_total i seat.adds) all_items (omega (arith, fits, weight_of-le-total_of key xs))
+    ∙ (exact (weight_of key xs) (cell_total i seat.adds) all_items (omega (arith, low, weight_of-le-total_of key xs))
     ∙ sym (weight_at_number keys xs i key at)))
 
 -- the weights in each piece are those in all items

@@ -1,26 +1,26 @@
 -- One piece more, and what two workers have made together.
-use Rattle.std.proofs.Common.{◌≡◌, inr, ℕ, zero, suc, ◌+◌, ◌*◌, ◌<◌, ◌≤◌, List, [], ◌∷◌, ◌++◌, length, get_or, map, refl, sym, ap, ◌∙◌, subst, arith, slice_get, Some, sum_by}
+use Rattle.std.proofs.Common.{◌≡◌, ℕ, zero, suc, ◌+◌, ◌*◌, List, [], ◌∷◌, ◌++◌, length, get_or, map, refl, sym, ap, ◌∙◌, subst, arith, slice_get, Some, sum_by}
 use Rattle.std.proofs.lemmas.List.{map-append}
 use Rattle.std.proofs.lemmas.Option.{get_or_from_slice_get, slice_get-map}
 use Rattle.std.specs.Option.{option_map}
 use Rattle.std.proofs.lemmas.Grind.{flat_map-append}
 use Rattle.std.proofs.lemmas.List.Sums.{sum_by-append}
-use Rattle.hh_stream.specs.Weights.{Bytes, Entry, at_key, max_total, weight_of}
+use Rattle.hh_stream.specs.Weights.{Bytes, Entry, at_key, weight_of}
 use Rattle.hh_shared.proofs.NumberFacts.{added-append}
 use Rattle.hh_counters.specs.Counting.{Count, count_of}
 use Rattle.hh_summaries.specs.Report.{weights_at, counts_with}
 use Rattle.hh_summaries.specs.Counters.{SummaryView, sketch_of}
 use Rattle.hh_countmin.specs.Table.{TableView, at_cell, cell_at, cell_sum, table_of}
 use Rattle.hh_countmin.specs.Laws.{CellsAreCellSums}
-use Rattle.hh_shared.specs.Numbers.{cell_total, AreDisjoint, IsDistinctBelow}
+use Rattle.hh_shared.specs.Numbers.{cell_total}
 use Rattle.hh_shared.specs.Seats.{Holding, seat_of_both}
 use Rattle.hh_pool.specs.Settings.{Settings}
-use Rattle.hh_pool.specs.Passes.{summaries_at, HaveCounted, HaveTaken, AreFirstPasses, AreSecondPasses}
+use Rattle.hh_pool.specs.Passes.{summaries_at, AreFirstPasses, AreSecondPasses}
 use Rattle.hh_workers.specs.Workers.{HasTried, HasTriedUpTo}
-use Rattle.hh_workers.specs.Pieces.{MayRefuse, items_at, piece_of}
+use Rattle.hh_workers.specs.Pieces.{items_at, piece_of}
 use Rattle.hh_pool.specs.Progress.{AreCounted, IsFirstMade}
 use Rattle.hh_workers.proofs.ClaimFacts.{tried-joined}
-use Rattle.hh_workers.proofs.PieceSums.{distinct-joined, items_at-push, joined_total, total-joined}
+use Rattle.hh_workers.proofs.PieceSums.{items_at-push}
 
 abbrev nothing : {A : Type 0} → A → ℕ
 nothing x = 0
@@ -62,19 +62,6 @@ first_ends law pieces settings seat after kept grid e adds tried p =
       summaries = p.summaries ∙ ap (summaries_at settings.k pieces) (sym claims);
     }
 
--- and the total of what the worker has taken is its table's
-pub first_taken : (pieces : List (List Entry)) (settings : Settings) (seat after : Holding)
-    (kept : List (ℕ × SummaryView)) (grid : TableView) (weight : ℕ) → after ≡ record seat { adds = after.adds }
-    → IsDistinctBelow (length pieces) seat.claims → IsFirstMade pieces settings seat.claims kept grid
-    → weight ≡ grid.total → weight ≤ max_total → HaveTaken pieces after.claims weight
-first_taken pieces settings seat after kept grid weight e distinct p is low =
-    let claims = ap (λ h. h.claims) e in
-    subst (λ claims. HaveTaken pieces claims weight) (sym claims) (record {
-      distinct = distinct;
-      total = is ∙ ap (λ (g : TableView). g.total) p.table;
-      bounded = low;
-    })
-
 -- what two workers brought back, joined
 pub first_joined : (pieces : List (List Entry)) (settings : Settings) (one other : Holding)
     (kept more : List (ℕ × SummaryView)) → AreFirstPasses pieces settings one kept
@@ -89,23 +76,6 @@ first_joined pieces settings one other kept more p q = record {
       omega (arith, items, sum, both, p.adds r c row cell, q.adds r c row cell);
   summaries = (λ i. p.summaries i ++ q.summaries i) ∙ sym (map-append _ one.claims other.claims);
 }
-
--- what two workers have taken, together
-pub taken_joined : (pieces : List (List Entry)) (one other : List ℕ) (weight more both : ℕ)
-    → HaveTaken pieces one weight → HaveTaken pieces other more → AreDisjoint one other
-    → both ≡ weight + more → both ≤ max_total → HaveTaken pieces (one ++ other) both
-taken_joined pieces one other weight more both p q apart is low = record {
-  distinct = distinct-joined (length pieces) one other p.distinct q.distinct apart;
-  total = omega (arith, is, p.total, q.total, total-joined pieces one other);
-  bounded = low;
-}
-
--- where that is too much, so is the total of all
-pub taken_too_much : (refuses : ℕ → Type 0) (pieces : List (List Entry)) (one other : List ℕ) (weight more : ℕ)
-    → HaveTaken pieces one weight → HaveTaken pieces other more → AreDisjoint one other
-    → max_total < weight + more → MayRefuse refuses pieces
-taken_too_much refuses pieces one other weight more p q apart high =
-    inr (omega (arith, high, p.total, q.total, joined_total pieces one other p.distinct q.distinct apart))
 
 -- keys before any item
 pub none_counted : (keys : List Bytes) (counts : Count) → counts ≡ count_of keys [] → AreCounted keys [] counts
@@ -164,33 +134,3 @@ second_joined pieces keys one other p q = record {
       ∙ sum_by-append (at_key key) (items_at pieces one.claims) (items_at pieces other.claims) in
       omega (arith, added-append i one.adds other.adds, p.adds i key at, q.adds i key at);
 }
-
--- and the total of what a worker of the second pass has counted
-pub second_counted : (pieces : List (List Entry)) (keys : List Bytes) (seat after : Holding) (counts : Count)
-    (weight : ℕ) → after ≡ record seat { adds = after.adds } → IsDistinctBelow (length pieces) seat.claims
-    → AreCounted keys (items_at pieces seat.claims) counts
-    → weight ≡ counts.total → HaveCounted pieces keys after.claims weight
-second_counted pieces keys seat after counts weight e distinct p is =
-    let claims = ap (λ h. h.claims) e in
-    subst (λ claims. HaveCounted pieces keys claims weight) (sym claims) (record {
-      distinct = distinct;
-      most = omega (arith, is, p.total);
-      whole = λ some. is ∙ p.whole some;
-    })
-
--- what two workers have counted, together
-pub counted_joined : (pieces : List (List Entry)) (keys : List Bytes) (one other : List ℕ) (weight more both : ℕ)
-    → HaveCounted pieces keys one weight → HaveCounted pieces keys other more → AreDisjoint one other
-    → both ≡ weight + more → HaveCounted pieces keys (one ++ other) both
-counted_joined pieces keys one other weight more both p q apart is = record {
-  distinct = distinct-joined (length pieces) one other p.distinct q.distinct apart;
-  most = omega (arith, is, p.most, q.most, total-joined pieces one other);
-  whole = λ some. omega (arith, is, p.whole some, q.whole some, total-joined pieces one other);
-}
-
--- where that is too much, so is the total of all
-pub counted_too_much : (refuses : ℕ → Type 0) (pieces : List (List Entry)) (keys : List Bytes) (one other : List ℕ)
-    (weight more : ℕ) → HaveCounted pieces keys one weight → HaveCounted pieces keys other more
-    → AreDisjoint one other → max_total < weight + more → MayRefuse refuses pieces
-counted_too_much refuses pieces keys one other weight more p q apart high =
-    inr (omega (arith, high, p.most, q.most, joined_total pieces one other p.distinct q.distinct apart))

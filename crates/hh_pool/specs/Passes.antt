@@ -1,7 +1,7 @@
 -- What the workers of a pass bring back.
-use Rattle.std.specs.Prelude.{◌≡◌, ℕ, ◌+◌, ◌*◌, ◌<◌, ◌≤◌, All, List, length, map, slice_get, Some}
+use Rattle.std.specs.Prelude.{◌≡◌, ℕ, ◌+◌, ◌*◌, ◌<◌, All, List, length, map, slice_get, Some}
 use Rattle.std.specs.List.Sorted.{IsStrictlyIncreasing}
-use Rattle.hh_stream.specs.Weights.{Bytes, Entry, max_total, total_of, weight_of}
+use Rattle.hh_stream.specs.Weights.{Bytes, Entry, weight_of}
 use Rattle.hh_summaries.specs.Counters.{SummaryView, sketch_of}
 use Rattle.hh_countmin.specs.Table.{cell_sum}
 use Rattle.hh_shared.specs.Numbers.{HasAllBelow, IsDistinctBelow, cell_total}
@@ -31,25 +31,12 @@ pub record AreFirstPasses (pieces : List (List Entry)) (settings : Settings) (se
       ≡ cell_sum settings.family settings.width r c (items_at pieces seat.claims)
   pub summaries : kept ≡ summaries_at settings.k pieces seat.claims
 
--- What workers have taken who claimed the pieces with these numbers: each of them once, and their items have this total
-pub record HaveTaken (pieces : List (List Entry)) (claims : List ℕ) (weight : ℕ) : Type 0 where
-  pub distinct : IsDistinctBelow (length pieces) claims
-  pub total : weight ≡ total_of (items_at pieces claims)
-  pub bounded : weight ≤ max_total
-
 -- What workers of the second pass bring back together. Each piece was claimed or met. The additions to a key's cell sum
 -- up to its weight over the claimed pieces
 pub record AreSecondPasses (pieces : List (List Entry)) (keys : List Bytes) (seat : Holding) : Type 0 where
   pub tried : HasTried (length pieces) seat
   pub adds : (i : ℕ) (key : Bytes) → slice_get keys i ≡ Some key
       → cell_total i seat.adds ≡ weight_of key (items_at pieces seat.claims)
-
--- What workers have counted who claimed the pieces with these numbers: each of them once, and where there are keys, their
--- items have this total
-pub record HaveCounted (pieces : List (List Entry)) (keys : List Bytes) (claims : List ℕ) (weight : ℕ) : Type 0 where
-  pub distinct : IsDistinctBelow (length pieces) claims
-  pub most : weight ≤ total_of (items_at pieces claims)
-  pub whole : 0 < length keys → weight ≡ total_of (items_at pieces claims)
 
 -- One worker takes the lowest piece that it finds unclaimed: each piece that it claims is above those that it claimed
 -- before

@@ -1,14 +1,13 @@
 //! The analysis of a stream: two passes by workers over pieces, and a merge between them.
 
 ghost use Rattle.std.specs.Prelude.{◌≡◌, ◌≢◌, ◌+◌, ◌*◌, ◌≤◌, ◌<◌, ◌↔◌, true};
-ghost use Rattle.std.specs.Prelude.{List, length, map, sum, IfOk, IsErr, IsErrOf, OnErr, OnOk, Err};
-ghost use Rattle.hh_stream.specs.Weights.{Entry, max_total, total_of};
+ghost use Rattle.std.specs.Prelude.{length, map, sum, IfOk, IsErr, IsErrOf, OnErr, OnOk, Err};
+ghost use Rattle.hh_stream.specs.Weights.{max_total, total_of};
 ghost use Rattle.hh_stream.specs.Cuttings.{max_pieces, pieces_of, whole_of};
 ghost use Rattle.hh_stream.specs.Ranges.{in_range};
 ghost use Rattle.hh_summaries.specs.Counters.{max_k, IsHonest, sketch_of};
 ghost use Rattle.hh_summaries.specs.Report.{weights_at, heavy};
-ghost use Rattle.hh_countmin.specs.Table.{table_of};
-ghost use Rattle.hh_workers.specs.Pieces.{MayRefuse};
+ghost use Rattle.hh_countmin.specs.Table.{FitsTable, table_of};
 ghost use Rattle.hh_workers.specs.Workers.{max_workers};
 ghost use Rattle.hh_workers.specs.Trees.{IsMergeTree, leaves};
 ghost use Rattle.hh_pool.specs.Outcomes.{IsMerged};
@@ -25,30 +24,33 @@ use hh_countmin::laws::{cells_are_cell_sums, tables_fit};
 use hh_stream::laws::pieces_make_the_whole;
 use hh_stream::{Cutting, PieceFault, Stream};
 use hh_workers::{CutStream, Gate, Pieces, Plan, only_memory, share_work};
-use std::alloc::Global;
+use std::alloc::{AllocError, Global};
 use std::sync::Wait;
 use std::thread::Threads;
 
-/// The first pass: the summaries of the pieces, in order, and the table of all items.
-fn summarise<R: Threads + Wait + Sync, P: Pieces + Sync, G: Gate + Sync>(
+/// The first pass: the summaries of the pieces, in order, and the table of all items, whose total
+/// this is.
+fn summarise<R: Threads + Wait + Sync, G: Gate + Sync>(
     rt: &R,
     alloc: Global,
-    pieces: &P,
+    pieces: &CutStream<'_>,
     gate: &G,
     options: &Options,
+    total: u64,
 ) -> Result<(Vec<Summary>, Table), PieceFault>
-    requires some { 0 < length (P.pieces pieces.now) }
-    requires few { length (P.pieces pieces.now) ≤ max_pieces }
-    ensures count { IfOk result (λ r.
-        length r.0.items ≡ length (P.pieces pieces.now)) }
-    ensures summaries { IfOk result (λ r. P.known pieces.now
-        → r.0.items ≡ map (sketch_of options.now.k) (P.pieces pieces.now)) }
-    ensures table { let options = options.now in IfOk result (λ r. P.known pieces.now
-        → r.1 ≡ table_of options.family options.width (whole_of (P.pieces pieces.now))) }
-    ensures refused { IsErrOf result PieceFault.Refused → P.known pieces.now
-        → MayRefuse (P.refuses pieces.now) (P.pieces pieces.now) }
+    requires some { 0 < length pieces.now }
+    requires few { length pieces.now ≤ max_pieces }
+    requires total { total ≡ total_of (whole_of pieces.now) }
+    requires fits { total ≤ max_total }
+    ensures summaries { IfOk result (λ r.
+        r.0.items ≡ map (sketch_of options.now.k) pieces.now) }
+    ensures table { let options = options.now in IfOk result (λ r.
+        r.1 ≡ table_of options.family options.width (whole_of pieces.now)) }
+    ensures refused { IsErrOf result PieceFault.Refused
+        → max_total < total_of (whole_of pieces.now) }
 {
     cells_are_cell_sums();
+    tables_fit();
     let pass = FirstPass {
         alloc,
         pieces,
@@ -58,52 +60,45 @@ fn summarise<R: Threads + Wait + Sync, P: Pieces + Sync, G: Gate + Sync>(
     let cells = (options.family().depth() * options.width()) as usize;
     match share_work(rt, alloc, &pass, cells, options.workers())? {
         Some((cells, found)) => {
-            let summaries = pass.in_order(found.summaries)?;
-            Ok((summaries, table_of_cells(options, found.total, cells)?))
+            let summaries = pass.in_order(found)?;
+            Ok((summaries, table_of_cells(options, total, cells)?))
         }
         None => pass.sequential(),
     }
 }
 
-/// The table with these cells and this total. It is refused where they make none, as where a piece
-/// changed while it was read.
-fn table_of_cells(options: &Options, total: u64, cells: Vec<u64>) -> Result<Table, PieceFault>
-    ensures table { IfOk result (λ table. table ≡ record {
+/// The table with these cells and this total.
+fn table_of_cells(options: &Options, total: u64, cells: Vec<u64>) -> Result<Table, AllocError>
+    requires { FitsTable options.now.family options.now.width total cells.items }
+    ensures { IfOk result (λ table. table ≡ record {
       family = options.now.family;
       width = options.now.width;
       total = total;
       cells = cells.items;
     }) }
-    ensures refused { IsErrOf result PieceFault.Refused → (xs : List Entry) → total ≡ total_of xs
-        → total ≤ max_total
-        → cells.items ≡ (table_of options.now.family options.now.width xs).cells → ⊥ }
 {
-    tables_fit();
     let family = options.family().copy()?;
-    if !Table::fits(&family, options.width(), total, &cells) {
-        return Err(PieceFault::Refused);
-    }
     Ok(Table::from_cells(family, options.width(), total, cells))
 }
 
 /// The second pass: the weight of each candidate in all items.
-fn weigh<R: Threads + Wait + Sync, P: Pieces + Sync, G: Gate + Sync>(
+fn weigh<R: Threads + Wait + Sync, G: Gate + Sync>(
     rt: &R,
     alloc: Global,
-    pieces: &P,
+    pieces: &CutStream<'_>,
     gate: &G,
     candidates: &Candidates,
     workers: u64,
 ) -> Result<Vec<u64>, PieceFault>
-    requires some { 0 < length (P.pieces pieces.now) }
-    requires few { length (P.pieces pieces.now) ≤ max_pieces }
+    requires some { 0 < length pieces.now }
+    requires few { length pieces.now ≤ max_pieces }
     requires workers { in_range workers max_workers ≡ true }
     requires few_keys { length candidates.now ≤ max_k }
-    ensures count { IfOk result (λ weights. length weights.items ≡ length candidates.now) }
-    ensures weights { IfOk result (λ weights. P.known pieces.now
-        → weights.items ≡ weights_at candidates.now (whole_of (P.pieces pieces.now))) }
-    ensures refused { IsErrOf result PieceFault.Refused → P.known pieces.now
-        → MayRefuse (P.refuses pieces.now) (P.pieces pieces.now) }
+    requires fits { total_of (whole_of pieces.now) ≤ max_total }
+    ensures weights { IfOk result (λ weights.
+        weights.items ≡ weights_at candidates.now (whole_of pieces.now)) }
+    ensures refused { IsErrOf result PieceFault.Refused
+        → max_total < total_of (whole_of pieces.now) }
 {
     let pass = SecondPass {
         alloc,
@@ -120,34 +115,35 @@ fn weigh<R: Threads + Wait + Sync, P: Pieces + Sync, G: Gate + Sync>(
     }
 }
 
-/// The summaries of the pieces, merged as the plan says, and the table of all items.
-fn merge_pieces<R: Threads + Wait + Sync, P: Pieces + Sync, G: Gate + Sync>(
+/// The summaries of the pieces, merged as the plan says, and the table of all items, whose total
+/// this is.
+fn merge_pieces<R: Threads + Wait + Sync, G: Gate + Sync>(
     rt: &R,
     alloc: Global,
-    pieces: &P,
+    pieces: &CutStream<'_>,
     gate: &G,
     plan: &Plan,
     options: &Options,
+    total: u64,
 ) -> Result<(Summary, Table), PieceFault>
-    requires plan { IsMergeTree plan.now (length (P.pieces pieces.now)) }
-    requires some { 0 < length (P.pieces pieces.now) }
-    requires few { length (P.pieces pieces.now) ≤ max_pieces }
-    ensures summary { let lists = P.pieces pieces.now in
-        IfOk result (λ merged. P.known pieces.now
-        → IsMerged plan.now options.now.k lists (whole_of lists) merged.0) }
-    ensures table { let options = options.now in IfOk result (λ merged. P.known pieces.now
-        → merged.1 ≡ table_of options.family options.width (whole_of (P.pieces pieces.now))) }
-    ensures refused { IsErrOf result PieceFault.Refused → P.known pieces.now
-        → MayRefuse (P.refuses pieces.now) (P.pieces pieces.now) }
+    requires plan { IsMergeTree plan.now (length pieces.now) }
+    requires some { 0 < length pieces.now }
+    requires few { length pieces.now ≤ max_pieces }
+    requires total { total ≡ total_of (whole_of pieces.now) }
+    requires fits { total ≤ max_total }
+    ensures summary { let lists = pieces.now in IfOk result (λ merged.
+        IsMerged plan.now options.now.k lists (whole_of lists) merged.0) }
+    ensures table { let options = options.now in IfOk result (λ merged.
+        merged.1 ≡ table_of options.family options.width (whole_of pieces.now)) }
+    ensures refused { IsErrOf result PieceFault.Refused
+        → max_total < total_of (whole_of pieces.now) }
 {
     misra_gries_is_honest();
-    let (summaries, table) = summarise(rt, alloc, pieces, gate, options)?;
-    // It bounds the sum of the summaries' totals.
-    let _total = table.total();
+    let (summaries, table) = summarise(rt, alloc, pieces, gate, options, total)?;
     match merge_by(alloc, plan, summaries) {
         Ok(summary) => Ok((summary, table)),
         Err(SummaryFault::Memory) => Err(PieceFault::Memory),
-        // Only pieces that changed while they were read come to this.
+        // The summaries have one k, and totals that fit: nothing comes to these.
         Err(SummaryFault::DifferentK) => Err(PieceFault::Refused),
         Err(SummaryFault::TotalTooLarge) => Err(PieceFault::Refused),
         Err(SummaryFault::BadK) => Err(PieceFault::Refused),
@@ -155,25 +151,23 @@ fn merge_pieces<R: Threads + Wait + Sync, P: Pieces + Sync, G: Gate + Sync>(
 }
 
 /// The keys above the options' threshold, by a second pass that counts those of the summary.
-fn heavy_keys<R: Threads + Wait + Sync, P: Pieces + Sync, G: Gate + Sync>(
+fn heavy_keys<R: Threads + Wait + Sync, G: Gate + Sync>(
     rt: &R,
     alloc: Global,
-    pieces: &P,
+    pieces: &CutStream<'_>,
     gate: &G,
     summary: &Summary,
     options: &Options,
 ) -> Result<Vec<Heavy>, PieceFault>
-    requires some { 0 < length (P.pieces pieces.now) }
-    requires few { length (P.pieces pieces.now) ≤ max_pieces }
-    requires total { P.known pieces.now
-        → summary.now.total ≡ total_of (whole_of (P.pieces pieces.now)) }
-    requires honest { let xs = whole_of (P.pieces pieces.now) in P.known pieces.now
-        → IsHonest summary.now.counters (total_of xs) xs options.now.k }
-    ensures heavy { let xs = whole_of (P.pieces pieces.now) in
-        IfOk result (λ rows. P.known pieces.now
-        → rows.items ≡ heavy xs options.now.p options.now.q) }
-    ensures refused { IsErrOf result PieceFault.Refused → P.known pieces.now
-        → MayRefuse (P.refuses pieces.now) (P.pieces pieces.now) }
+    requires some { 0 < length pieces.now }
+    requires few { length pieces.now ≤ max_pieces }
+    requires total { summary.now.total ≡ total_of (whole_of pieces.now) }
+    requires honest { let xs = whole_of pieces.now in
+        IsHonest summary.now.counters (total_of xs) xs options.now.k }
+    ensures heavy { let xs = whole_of pieces.now in
+        IfOk result (λ rows. rows.items ≡ heavy xs options.now.p options.now.q) }
+    ensures refused { IsErrOf result PieceFault.Refused
+        → max_total < total_of (whole_of pieces.now) }
 {
     candidates_suffice();
     let (p, q) = options.threshold();
@@ -183,30 +177,31 @@ fn heavy_keys<R: Threads + Wait + Sync, P: Pieces + Sync, G: Gate + Sync>(
     Ok(candidates.select(&weights, total, p, q)?)
 }
 
-/// The outcome, where the plan has as many pieces as there are.
-fn run_passes<R: Threads + Wait + Sync, P: Pieces + Sync, G: Gate + Sync>(
+/// The outcome, where the plan has as many pieces as there are, and this is the total of all items.
+fn run_passes<R: Threads + Wait + Sync, G: Gate + Sync>(
     rt: &R,
     alloc: Global,
-    pieces: &P,
+    pieces: &CutStream<'_>,
     gate: &G,
     plan: &Plan,
     options: &Options,
+    total: u64,
 ) -> Result<Outcome, PieceFault>
-    requires plan { IsMergeTree plan.now (length (P.pieces pieces.now)) }
-    requires some { 0 < length (P.pieces pieces.now) }
-    requires few { length (P.pieces pieces.now) ≤ max_pieces }
-    ensures summary { let lists = P.pieces pieces.now in
-        IfOk result (λ outcome. P.known pieces.now
-        → IsMerged plan.now options.now.k lists (whole_of lists) outcome.summary) }
-    ensures table { let options = options.now in IfOk result (λ outcome. P.known pieces.now
-        → outcome.table ≡ table_of options.family options.width (whole_of (P.pieces pieces.now))) }
-    ensures heavy { let xs = whole_of (P.pieces pieces.now) in
-        IfOk result (λ outcome. P.known pieces.now
-        → outcome.heavy.items ≡ heavy xs options.now.p options.now.q) }
-    ensures refused { IsErrOf result PieceFault.Refused → P.known pieces.now
-        → MayRefuse (P.refuses pieces.now) (P.pieces pieces.now) }
+    requires plan { IsMergeTree plan.now (length pieces.now) }
+    requires some { 0 < length pieces.now }
+    requires few { length pieces.now ≤ max_pieces }
+    requires total { total ≡ total_of (whole_of pieces.now) }
+    requires fits { total ≤ max_total }
+    ensures summary { let lists = pieces.now in IfOk result (λ outcome.
+        IsMerged plan.now options.now.k lists (whole_of lists) outcome.summary) }
+    ensures table { let options = options.now in IfOk result (λ outcome.
+        outcome.table ≡ table_of options.family options.width (whole_of pieces.now)) }
+    ensures heavy { let xs = whole_of pieces.now in IfOk result (λ outcome.
+        outcome.heavy.items ≡ heavy xs options.now.p options.now.q) }
+    ensures refused { IsErrOf result PieceFault.Refused
+        → max_total < total_of (whole_of pieces.now) }
 {
-    let (summary, table) = merge_pieces(rt, alloc, pieces, gate, plan, options)?;
+    let (summary, table) = merge_pieces(rt, alloc, pieces, gate, plan, options, total)?;
     let heavy = heavy_keys(rt, alloc, pieces, gate, &summary, options)?;
     Ok(Outcome {
         summary,
@@ -258,11 +253,10 @@ pub fn analyse<R: Threads + Wait + Sync, G: Gate + Sync>(
         outcome.heavy.items ≡ heavy stream.now options.now.p options.now.q) }
 {
     pieces_make_the_whole();
-    // It bounds the weights of the pieces.
-    let _total = stream.total();
+    let total = stream.total();
     let pieces = CutStream::new(stream, cutting);
     check_counts(plan, pieces.count())?;
-    match only_memory(run_passes(rt, alloc, &pieces, gate, plan, options)) {
+    match only_memory(run_passes(rt, alloc, &pieces, gate, plan, options, total)) {
         Ok(outcome) => Ok(outcome),
         Err(_) => Err(RunError::Memory),
     }

@@ -1,7 +1,7 @@
 //! The first pass: each piece is summarised, and its items are added to the cells of one table.
 
-ghost use Rattle.std.specs.Prelude.{◌≡◌, ◌+◌, ◌*◌, ◌<◌, ◌≤◌, ◌++◌, ◌⊎◌};
-ghost use Rattle.std.specs.Prelude.{[], ℕ, List, length, map, max, sum, true, IfOk, IsErr, IsErrOf};
+ghost use Rattle.std.specs.Prelude.{◌≡◌, ◌+◌, ◌*◌, ◌<◌, ◌≤◌, ◌++◌};
+ghost use Rattle.std.specs.Prelude.{[], ℕ, List, length, map, max, sum, true, IfOk, IsErrOf};
 ghost use Rattle.hh_stream.specs.Weights.{max_total, Entry, total_of};
 ghost use Rattle.hh_stream.specs.Cuttings.{pieces_of, whole_of};
 ghost use Rattle.hh_stream.specs.Ranges.{in_range};
@@ -11,8 +11,8 @@ ghost use Rattle.hh_countmin.specs.Family.{Coefficients};
 ghost use Rattle.hh_countmin.specs.Table.{table_of};
 ghost use Rattle.hh_shared.specs.Seats.{fresh};
 ghost use Rattle.hh_pool.specs.Passes.{AreSummaries, IsFirstPass};
-ghost use Rattle.hh_workers.specs.Pieces.{MayRefuse, piece_of};
-ghost use Rattle.hh_pool.specs.Progress.{IsSummarised, sketches_with};
+ghost use Rattle.hh_workers.specs.Pieces.{piece_of};
+ghost use Rattle.hh_pool.specs.Progress.{sketches_with};
 
 use crate::options::Options;
 use hh_counters::laws::summaries_follow_items;
@@ -21,7 +21,7 @@ use hh_countmin::Table;
 use hh_countmin::laws::{cells_are_cell_sums, tables_follow_items};
 use hh_shared::{SharedSums, SumSeat};
 use hh_stream::laws::pieces_make_the_whole;
-use hh_stream::{Cutting, KeyHash, MAX_TOTAL, PieceFault, Stream, TakeItems};
+use hh_stream::{Cutting, KeyHash, PieceFault, Stream, TakeItems};
 use hh_workers::{
     CutStream, Gate, Pass, Pieces, add_numbers, only_memory, run_sequentially, run_worker,
 };
@@ -29,9 +29,9 @@ use std::alloc::{AllocError, Global};
 
 /// What each worker of the first pass goes over, and by which options.
 #[derive(Drop)]
-pub(crate) struct FirstPass<'a, P, G> {
+pub(crate) struct FirstPass<'a, 's, G> {
     pub(crate) alloc: Global,
-    pub(crate) pieces: &'a P,
+    pub(crate) pieces: &'a CutStream<'s>,
     pub(crate) gate: &'a G,
     pub(crate) options: &'a Options,
 }
@@ -68,8 +68,7 @@ pub fn first_pass<G: Gate>(
         gate,
         options,
     };
-    let (seat, summarised) = only_memory(run_worker(&pass, sums, seat, worker))?;
-    Ok((seat, summarised.summaries))
+    only_memory(run_worker(&pass, sums, seat, worker))
 }
 
 /// Makes the first pass by the calling thread, as where no worker claimed a piece: the summaries of
@@ -162,36 +161,17 @@ pub(crate) struct LocalSketches {
     table: Table,
 }
 
-/// The sum of two workers' totals, which is refused where it is too large.
-pub(crate) fn sum_of_totals(one: u64, other: u64) -> Result<u64, PieceFault>
-    ensures sum { IfOk result (λ total. total ≡ one + other) }
-    ensures within { IfOk result (λ total. total ≤ max_total) }
-    ensures refused { IsErr result → max_total < one + other }
-{
-    match one.checked_add(other) {
-        Some(total) if total <= MAX_TOTAL => Ok(total),
-        _ => Err(PieceFault::Refused),
-    }
-}
-
-/// What workers give: the summaries of their pieces, each with its piece's number, and the total of
-/// all items that they took.
-#[derive(Drop)]
-pub(crate) struct Summarised {
-    pub(crate) summaries: Vec<(usize, Summary)>,
-    pub(crate) total: u64,
-}
-
-impl<'a, P: Pieces, G: Gate> FirstPass<'a, P, G> {
+impl<'a, 's, G: Gate> FirstPass<'a, 's, G> {
     // The summary of a piece, by Space-Saving in buckets, and the table with the piece's items.
     fn summarise(&self, table: Table, piece: usize) -> Result<(Summary, Table), PieceFault>
-        requires { piece < length (P.pieces self.now.pieces.now) }
-        ensures summarised { let pieces = self.now.pieces.now in IfOk result (λ r.
-            IsSummarised (λ xs. P.known pieces → xs ≡ piece_of (P.pieces pieces) piece)
-            self.now.options.now.k r.0 table r.1) }
-        ensures refused { let pieces = self.now.pieces.now in
-            IsErrOf result PieceFault.Refused → P.known pieces → P.refuses pieces piece
-            ⊎ (max_total < table.total + total_of (piece_of (P.pieces pieces) piece)) }
+        requires { piece < length self.now.pieces.now }
+        ensures summary { let items = piece_of self.now.pieces.now piece in
+            IfOk result (λ r. r.0 ≡ sketch_of self.now.options.now.k items) }
+        ensures table { let items = piece_of self.now.pieces.now piece in IfOk result (λ r.
+            (family : Coefficients) (width : ℕ) (ys : List Entry)
+            → table ≡ table_of family width ys → r.1 ≡ table_of family width (ys ++ items)) }
+        ensures refused { IsErrOf result PieceFault.Refused
+            → max_total < table.total + total_of (piece_of self.now.pieces.now piece) }
     {
         summaries_follow_items();
         tables_follow_items();
@@ -206,12 +186,9 @@ impl<'a, P: Pieces, G: Gate> FirstPass<'a, P, G> {
         &self,
         mut found: Vec<(usize, Summary)>,
     ) -> Result<Vec<Summary>, AllocError>
-        requires { let pieces = self.now.pieces.now in P.known pieces
-            → AreSummaries self.now.options.now.k (P.pieces pieces) found.items }
-        ensures count { IfOk result (λ summaries. length summaries.items ≡ length found.items) }
-        ensures summaries { let pieces = self.now.pieces.now in
-            IfOk result (λ summaries. P.known pieces
-            → summaries.items ≡ map (sketch_of self.now.options.now.k) (P.pieces pieces)) }
+        requires { AreSummaries self.now.options.now.k self.now.pieces.now found.items }
+        ensures { IfOk result (λ summaries.
+            summaries.items ≡ map (sketch_of self.now.options.now.k) self.now.pieces.now) }
     {
         found.sort_unstable_by(|a, b| a.0.cmp(&b.0));
         let mut summaries = Vec::new(self.alloc);
@@ -224,49 +201,40 @@ impl<'a, P: Pieces, G: Gate> FirstPass<'a, P, G> {
     /// Makes the summaries of the pieces, in order, and the table of all items in the calling
     /// thread, without sums.
     pub(crate) fn sequential(&self) -> Result<(Vec<Summary>, Table), PieceFault>
-        ensures count { let pieces = self.now.pieces.now in
-            IfOk result (λ r. length r.0.items ≡ length (P.pieces pieces)) }
-        ensures summaries { let pieces = self.now.pieces.now in
-            IfOk result (λ r. P.known pieces
-            → r.0.items ≡ map (sketch_of self.now.options.now.k) (P.pieces pieces)) }
-        ensures table { let options = self.now.options.now in
-            let pieces = self.now.pieces.now in IfOk result (λ r. P.known pieces
-            → r.1 ≡ table_of options.family options.width (whole_of (P.pieces pieces))) }
-        ensures refused { let pieces = self.now.pieces.now in
-            IsErrOf result PieceFault.Refused → P.known pieces
-            → MayRefuse (P.refuses pieces) (P.pieces pieces) }
+        ensures summaries { IfOk result (λ r.
+            r.0.items ≡ map (sketch_of self.now.options.now.k) self.now.pieces.now) }
+        ensures table { let options = self.now.options.now in IfOk result (λ r.
+            r.1 ≡ table_of options.family options.width (whole_of self.now.pieces.now)) }
+        ensures refused { IsErrOf result PieceFault.Refused
+            → max_total < total_of (whole_of self.now.pieces.now) }
     {
         let LocalSketches { summaries, table } = run_sequentially(self, self.options.workers())?;
         Ok((self.in_order(summaries)?, table))
     }
 }
 
-impl<'a, P: Pieces, G: Gate> Pass for FirstPass<'a, P, G> {
+impl<'a, 's, G: Gate> Pass for FirstPass<'a, 's, G> {
     type Local = LocalSketches;
 
-    type Partial = Summarised;
+    type Partial = Vec<(usize, Summary)>;
 
-    ghost use Rattle.std.specs.Prelude.{◌*◌, length};
-    ghost use Rattle.hh_pool.specs.Passes.{AreFirstPasses, HaveTaken};
-    ghost use Rattle.hh_pool.specs.Progress.{HoldsItems, IsFirstMade};
-    ghost use Rattle.hh_workers.specs.Pieces.{MayRefuse};
+    ghost use Rattle.std.specs.Prelude.{◌*◌, ◌<◌, length};
+    ghost use Rattle.hh_stream.specs.Cuttings.{whole_of};
+    ghost use Rattle.hh_stream.specs.Weights.{max_total, total_of};
+    ghost use Rattle.hh_pool.specs.Passes.{AreFirstPasses};
+    ghost use Rattle.hh_pool.specs.Progress.{IsFirstMade};
 
-    ghost pieces = { λ p. length (P.pieces p.pieces.now) };
+    ghost pieces = { λ p. length p.pieces.now };
 
     ghost cells = { λ p. length p.options.now.family.rows * p.options.now.width };
 
-    ghost is_made = { λ p numbers made. let pieces = p.pieces.now in
-        HoldsItems p.options.now numbers made.summaries.items made.table × (P.known pieces
-        → IsFirstMade (P.pieces pieces) p.options.now numbers
-        made.summaries.items made.table) };
+    ghost is_made = { λ p numbers made.
+        IsFirstMade p.pieces.now p.options.now numbers made.summaries.items made.table };
 
-    ghost all_done = { λ p seat kept. let pieces = p.pieces.now in
-        (length kept.summaries.items ≡ length seat.claims) × (P.known pieces
-        → AreFirstPasses (P.pieces pieces) p.options.now seat kept.summaries.items
-        × HaveTaken (P.pieces pieces) seat.claims kept.total) };
+    ghost all_done = { λ p seat kept.
+        AreFirstPasses p.pieces.now p.options.now seat kept.items };
 
-    ghost may_refuse = { λ p. let pieces = p.pieces.now in P.known pieces
-        → MayRefuse (P.refuses pieces) (P.pieces pieces) };
+    ghost may_refuse = { λ p. max_total < total_of (whole_of p.pieces.now) };
 
     fn count(&self) -> usize {
         self.pieces.count()
@@ -296,17 +264,24 @@ impl<'a, P: Pieces, G: Gate> Pass for FirstPass<'a, P, G> {
         Ok(LocalSketches { summaries, table })
     }
 
-    fn finish(&self, sums: &SharedSums, seat: &mut SumSeat, made: LocalSketches) -> Summarised {
+    fn finish(
+        &self,
+        sums: &SharedSums,
+        seat: &mut SumSeat,
+        made: LocalSketches,
+    ) -> Vec<(usize, Summary)> {
         cells_are_cell_sums();
         let LocalSketches { summaries, table } = made;
         add_numbers(sums, seat, table.cells());
-        let total = table.total();
-        Summarised { summaries, total }
+        summaries
     }
 
-    fn merge(&self, mut one: Summarised, mut other: Summarised) -> Result<Summarised, PieceFault> {
-        one.total = sum_of_totals(one.total, other.total)?;
-        one.summaries.append(&mut other.summaries)?;
+    fn merge(
+        &self,
+        mut one: Vec<(usize, Summary)>,
+        mut other: Vec<(usize, Summary)>,
+    ) -> Result<Vec<(usize, Summary)>, PieceFault> {
+        one.append(&mut other)?;
         Ok(one)
     }
 }

@@ -1,16 +1,15 @@
 //! The second pass: the candidates' exact weights are counted.
 
-ghost use Rattle.std.specs.Prelude.{◌≡◌, ◌+◌, ◌<◌, ◌≤◌, ◌++◌, ◌⊎◌, List, length, sum};
+ghost use Rattle.std.specs.Prelude.{◌≡◌, ◌+◌, ◌<◌, ◌++◌, List, length, sum};
 ghost use Rattle.std.specs.Prelude.{IfOk, IsErrOf, OnOk};
 ghost use Rattle.hh_stream.specs.Weights.{Entry, max_total, total_of};
 ghost use Rattle.hh_stream.specs.Cuttings.{pieces_of, whole_of};
 ghost use Rattle.hh_summaries.specs.Report.{weights_at};
 ghost use Rattle.hh_shared.specs.Seats.{fresh};
-ghost use Rattle.hh_pool.specs.Passes.{AreSecondPasses, IsSecondPass};
-ghost use Rattle.hh_workers.specs.Pieces.{MayRefuse, piece_of};
-ghost use Rattle.hh_pool.specs.Progress.{AreCounted, IsCountedOn};
+ghost use Rattle.hh_pool.specs.Passes.{IsSecondPass};
+ghost use Rattle.hh_workers.specs.Pieces.{piece_of};
+ghost use Rattle.hh_pool.specs.Progress.{AreCounted};
 
-use crate::first::sum_of_totals;
 use hh_counters::{Candidates, Counts};
 use hh_shared::{SharedSums, SumSeat};
 use hh_stream::laws::pieces_make_the_whole;
@@ -22,9 +21,9 @@ use std::alloc::{AllocError, Global};
 
 /// What each worker of the second pass works on.
 #[derive(Drop)]
-pub(crate) struct SecondPass<'a, 'c, P, G> {
+pub(crate) struct SecondPass<'a, 's, 'c, G> {
     pub(crate) alloc: Global,
-    pub(crate) pieces: &'a P,
+    pub(crate) pieces: &'a CutStream<'s>,
     pub(crate) gate: &'a G,
     pub(crate) candidates: &'c Candidates,
 }
@@ -92,16 +91,15 @@ pub fn second_pass_sequentially<G: Gate>(
     only_memory(pass.sequential(workers))
 }
 
-impl<'a, 'c, P: Pieces, G: Gate> SecondPass<'a, 'c, P, G> {
+impl<'a, 's, 'c, G: Gate> SecondPass<'a, 's, 'c, G> {
     // Counts the candidates of a piece, which isn't read where there are none.
     fn count_piece(&self, counts: &mut Counts, piece: usize) -> Result<(), PieceFault>
-        requires { piece < length (P.pieces self.now.pieces.now) }
-        ensures counted { let pieces = self.now.pieces.now in OnOk result
-            (IsCountedOn (λ xs. P.known pieces → xs ≡ piece_of (P.pieces pieces) piece)
-            self.now.candidates.now counts.old counts.new) }
-        ensures refused { let pieces = self.now.pieces.now in
-            IsErrOf result PieceFault.Refused → P.known pieces → P.refuses pieces piece
-            ⊎ (max_total < counts.old.total + total_of (piece_of (P.pieces pieces) piece)) }
+        requires { piece < length self.now.pieces.now }
+        ensures counted { let items = piece_of self.now.pieces.now piece in OnOk result
+            ((ys : List Entry) → AreCounted self.now.candidates.now ys counts.old
+            → AreCounted self.now.candidates.now (ys ++ items) counts.new) }
+        ensures refused { IsErrOf result PieceFault.Refused
+            → max_total < counts.old.total + total_of (piece_of self.now.pieces.now piece) }
     {
         if self.candidates.is_empty() {
             return Ok(());
@@ -112,18 +110,12 @@ impl<'a, 'c, P: Pieces, G: Gate> SecondPass<'a, 'c, P, G> {
     /// What the calling thread counts without sums: the candidates' weights in all pieces, and the
     /// total of all items where there are candidates. `workers` is what the gate hears.
     pub(crate) fn sequential(&self, workers: u64) -> Result<(Vec<u64>, u64), PieceFault>
-        ensures count { IfOk result (λ r.
-            length r.0.items ≡ length self.now.candidates.now) }
-        ensures weights { let pieces = self.now.pieces.now in
-            IfOk result (λ r. P.known pieces
-            → r.0.items ≡ weights_at self.now.candidates.now (whole_of (P.pieces pieces))) }
-        ensures total { let pieces = self.now.pieces.now in IfOk result (λ r.
-            P.known pieces → 0 < length self.now.candidates.now
-            → r.1 ≡ total_of (whole_of (P.pieces pieces))) }
-        ensures bounded { IfOk result (λ r. r.1 ≤ max_total) }
-        ensures refused { let pieces = self.now.pieces.now in
-            IsErrOf result PieceFault.Refused → P.known pieces
-            → MayRefuse (P.refuses pieces) (P.pieces pieces) }
+        ensures weights { IfOk result (λ r.
+            r.0.items ≡ weights_at self.now.candidates.now (whole_of self.now.pieces.now)) }
+        ensures total { IfOk result (λ r. 0 < length self.now.candidates.now
+            → r.1 ≡ total_of (whole_of self.now.pieces.now)) }
+        ensures refused { IsErrOf result PieceFault.Refused
+            → max_total < total_of (whole_of self.now.pieces.now) }
     {
         let counts = run_sequentially(self, workers)?;
         let total = counts.total();
@@ -131,32 +123,28 @@ impl<'a, 'c, P: Pieces, G: Gate> SecondPass<'a, 'c, P, G> {
     }
 }
 
-impl<'a, 'c, P: Pieces, G: Gate> Pass for SecondPass<'a, 'c, P, G> {
+impl<'a, 's, 'c, G: Gate> Pass for SecondPass<'a, 's, 'c, G> {
     type Local = Counts<'c>;
 
-    type Partial = u64;
+    type Partial = ();
 
-    ghost use Rattle.std.specs.Prelude.{length};
-    ghost use Rattle.hh_stream.specs.Weights.{max_total};
-    ghost use Rattle.hh_pool.specs.Passes.{AreSecondPasses, HaveCounted};
-    ghost use Rattle.hh_pool.specs.Progress.{AreCounted, HasCounted};
-    ghost use Rattle.hh_workers.specs.Pieces.{MayRefuse, items_at};
+    ghost use Rattle.std.specs.Prelude.{◌<◌, length};
+    ghost use Rattle.hh_stream.specs.Cuttings.{whole_of};
+    ghost use Rattle.hh_stream.specs.Weights.{max_total, total_of};
+    ghost use Rattle.hh_pool.specs.Passes.{AreSecondPasses};
+    ghost use Rattle.hh_pool.specs.Progress.{AreCounted};
+    ghost use Rattle.hh_workers.specs.Pieces.{items_at};
 
-    ghost pieces = { λ p. length (P.pieces p.pieces.now) };
+    ghost pieces = { λ p. length p.pieces.now };
 
     ghost cells = { λ p. length p.candidates.now };
 
-    ghost is_made = { λ p numbers counts. let pieces = p.pieces.now in
-        HasCounted p.candidates.now numbers counts × (P.known pieces
-        → AreCounted p.candidates.now (items_at (P.pieces pieces) numbers) counts) };
+    ghost is_made = { λ p numbers counts.
+        AreCounted p.candidates.now (items_at p.pieces.now numbers) counts };
 
-    ghost all_done = { λ p seat total. let pieces = p.pieces.now in
-        (total ≤ max_total) × (P.known pieces
-        → AreSecondPasses (P.pieces pieces) p.candidates.now seat
-        × HaveCounted (P.pieces pieces) p.candidates.now seat.claims total) };
+    ghost all_done = { λ p seat _. AreSecondPasses p.pieces.now p.candidates.now seat };
 
-    ghost may_refuse = { λ p. let pieces = p.pieces.now in P.known pieces
-        → MayRefuse (P.refuses pieces) (P.pieces pieces) };
+    ghost may_refuse = { λ p. max_total < total_of (whole_of p.pieces.now) };
 
     fn count(&self) -> usize {
         self.pieces.count()
@@ -177,14 +165,11 @@ impl<'a, 'c, P: Pieces, G: Gate> Pass for SecondPass<'a, 'c, P, G> {
         Ok(made)
     }
 
-    fn finish(&self, sums: &SharedSums, seat: &mut SumSeat, made: Counts<'c>) -> u64 {
-        let total = made.total();
+    fn finish(&self, sums: &SharedSums, seat: &mut SumSeat, made: Counts<'c>) {
         add_numbers(sums, seat, &made.into_weights());
-        total
     }
 
-    fn merge(&self, one: u64, other: u64) -> Result<u64, PieceFault> {
-        let total = sum_of_totals(one, other)?;
-        Ok(total)
+    fn merge(&self, _one: (), _other: ()) -> Result<(), PieceFault> {
+        Ok(())
     }
 }

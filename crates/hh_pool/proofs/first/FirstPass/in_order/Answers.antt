@@ -2,9 +2,8 @@ use Rattle.std.proofs.Common.{◌++◌, ◌∷◌, ◌∙◌, ℕ, List, [], len
 use Rattle.std.specs.Ordering.{nat_cmp}
 use Rattle.std.proofs.lemmas.Cmp.{nat_cmp_total}
 use Rattle.std.proofs.lemmas.Fn.{always_returns_same}
-use Rattle.std.proofs.lemmas.List.{append_assoc, append-nil, length-append, length-map, nil_from_length}
+use Rattle.std.proofs.lemmas.List.{append_assoc, append-nil, nil_from_length}
 use Rattle.std.proofs.lemmas.List.MinMax.{ranks_by}
-use Rattle.std.proofs.lemmas.List.Sorted.{length_permutation}
 use Rattle.hh_summaries.specs.Counters.{SummaryView, sketch_of}
 use Rattle.hh_workers.specs.Pieces.{piece_of}
 use Rattle.hh_pool.proofs.Closed.{by_number}
@@ -27,11 +26,11 @@ loop-summary-preserved g c =
     ∙ (sym (append_assoc taken (c.in-Some.summary ∷ []) (alone left))
     ∙ ap (λ (more : List SummaryView). more ++ alone left) (sym c.in_ok-push.ensures.items)))
 
-pub returns-clause-summaries : goal.returns-clause-summaries
-returns-clause-summaries g c = λ known.
+pub returns : goal.returns
+returns g c =
     let k = c.args.self.now.options.now.k in
-    let lists = g.P.Pieces.pieces c.args.self.now.pieces.now in
-    let ours = c.requires known in
+    let lists = c.args.self.now.pieces.now in
+    let ours = c.requires in
     let none = nil_from_length c.loop-summary.summary-iterator.rest.items
     (omega (arith, c.in-None.ensures.steps.0, c.loop-summary.summary-iterator.rest.ok)) in
     let sorted = c.sort_unstable_by.ensures.sorted (λ x y. is_lt (nat_cmp x.0 y.0))
@@ -41,22 +40,3 @@ returns-clause-summaries g c = λ known.
     ∙ (ap alone c.into_iter-summary-iterator.ensures.into_iter_gives.0
     ∙ (ordered (λ i. sketch_of k (piece_of lists i)) (length lists) c.args.found.items _ ours.theirs ours.distinct ours.all
     c.sort_unstable_by.ensures.permutation sorted ∙ by_number k lists))
-
-pub returns-clause-count : goal.returns-clause-count
-returns-clause-count g c =
-    let taken = c.loop-summary.summaries.items in
-    let rest = c.loop-summary.summary-iterator.rest.items in
-    let begun = c.into_iter-summary-iterator.result.rest.items in
-    let all = ap length c.into_iter-summary-iterator.ensures.into_iter_gives.0 in
-    let sorted = length_permutation c.args.found.items _ c.sort_unstable_by.ensures.permutation in
-    omega (
-      arith,
-      all,
-      sorted,
-      ap length c.loop-summary.invariant,
-      length-append taken (alone rest),
-      length-map rest (λ (it : ℕ × SummaryView). it.1),
-      length-map begun (λ (it : ℕ × SummaryView). it.1),
-      c.loop-summary.summary-iterator.rest.ok,
-      c.in-None.ensures.steps.0,
-    )
