@@ -6,6 +6,7 @@ use Rattle.hh_stream.specs.Weights.{Bytes, Entry, total_of}
 use Rattle.hh_summaries.specs.Report.{weights_at}
 use Rattle.hh_tally.specs.Tallies.{AreBounds}
 use Rattle.hh_tally.specs.declared.room.Room.{Room}
+use Rattle.hh_top.specs.Rooms.{counted_in, shared_room, whole_room}
 use Rattle.hh_top.specs.Top.{GreatestRefused, IsTopFault, IsUncertain, ShortlistView, stand_out}
 use Rattle.hh_workers.specs.Workers.{max_workers}
 use Rattle.hh_records.specs.Refusals.{RecordsRefused}
@@ -13,7 +14,7 @@ use Rattle.hh_records.specs.Streams.{Known, Reading}
 use Rattle.hh_rows.specs.Printed.{printed_rows}
 use Rattle.hh_rows.specs.declared.printed.RowOptions.{RowOptions}
 use Rattle.hh_files.specs.FilePasses.{TalliesRecords, WeighsRecords}
-use Rattle.hh_files.specs.TopFiles.{FindsTop, IsSharedRoom, ListRefused, PrintsTop, TellsTop, TopFilesRefused, TopRefused, counted_in, shared_room, whole_room}
+use Rattle.hh_files.specs.TopFiles.{FindsTop, IsSharedRoom, ListRefused, PrintsTop, TellsTop, TopFilesRefused, TopRefused}
 use Rattle.hh_files.specs.declared.topping.TopOptions.{TopOptions}
 use Rattle.hh_faults.specs.declared.error.ToolError.{ToolError}
 use Rattle.hh_faults.specs.declared.error.ToolError.TheVariants as tool
