@@ -1,6 +1,6 @@
 //! The greatest keys of a text's records.
 
-ghost use Rattle.std.specs.Prelude.{◌≡◌, ◌*◌, List, Ok, IfErr, IfOk};
+ghost use Rattle.std.specs.Prelude.{◌≡◌, List, Ok, IfErr, IfOk};
 ghost use Rattle.hh_stream.specs.Weights.{Entry, total_of};
 ghost use Rattle.hh_top.specs.Rooms.{counted_in};
 ghost use Rattle.hh_top.specs.Top.{top};
