@@ -1044,13 +1044,11 @@ def _reported(whole: bytes, k: int, share: Tuple[int, int], count: int, layout: 
         return _reported(whole, k, share, 1, layout)
 
 
-def top(
-    records: Records, n: int = 10, *, memory: int = 256, layout: Layout = PLAIN, text: bool = False
-) -> List[Row]:
+def top(records: Records, n: int = 10, *, memory: int = 256, layout: Layout = PLAIN, text: bool = False) -> List[Row]:
     """The n keys of CSV records `key,weight`, or those of another layout, that weigh the most, or all where they are fewer. Each
     has its exact weight, by falling weight and then by rising key. Counters take so many megabytes of memory. Where these leave
-    open which keys are the greatest, that is a `HeavyError`, whose `number` is how many of them are certain. The rows are those of
-    the program's `top`.
+    open which keys are the greatest, that is a `HeavyError`, whose `number` is how many are certain. The rows are those of the
+    program's `top`.
 
     >>> top(b"a,5\\nb,2\\na,1\\nc,2\\n", 2)
     [Row(key=b'a', weight=6), Row(key=b'b', weight=2)]
