@@ -61,8 +61,7 @@ extern "C" {
 #define HEAVY_MEMORY 4u
 #define HEAVY_TOO_SMALL 5u
 
-/* Kinds of fault. Those with a number and a cause say so; else both are 0. No call gives HEAVY_BAD_METHOD or
-   HEAVY_TOP_UNCERTAIN today. */
+/* Kinds of fault. Those with a number and a cause say so; else both are 0. No call gives HEAVY_BAD_METHOD today. */
 #define HEAVY_BAD_DEPTH 1u
 #define HEAVY_BAD_K 2u
 #define HEAVY_BAD_WIDTH 4u
@@ -83,7 +82,7 @@ extern "C" {
 #define HEAVY_NO_COLUMN 24u
 #define HEAVY_WEIGHT_OUTSIDE 25u
 #define HEAVY_BAD_LAYOUT 26u
-#define HEAVY_TOP_UNCERTAIN 27u
+#define HEAVY_TOP_UNCERTAIN 27u /* number of the greatest keys that are certain */
 #define HEAVY_NO_VALUE 28u
 
 #define HEAVY_RECORD_FIELD_COUNT 1u
@@ -303,6 +302,15 @@ uint32_t heavy_condense_records(struct heavy *heavy, const uint8_t *text, size_t
 uint32_t heavy_report(const uint8_t *text, size_t text_len, const struct heavy_layout *layout, const uint8_t *columns,
                       size_t columns_len, const uint64_t *ends, size_t count, uint64_t k, uint64_t p, uint64_t q,
                       const struct heavy_hash *hash, uint8_t *out, size_t out_len, size_t *needed, struct heavy_fault *fault);
+
+/* Gives the rows `key,weight` of the n greatest keys of the records of a text, or of all where they are fewer, by falling
+   weight and then by rising key, as the program's top has them. Counters take so many bytes of memory, a few more or less,
+   and 256,000 at least. The text is read once where they tell the greatest keys, and else twice. The layout is tested first,
+   then the records. Where fewer than n keys are certain, that is refused last: HEAVY_REFUSED and HEAVY_TOP_UNCERTAIN. Keys
+   are hashed by these words. */
+uint32_t heavy_top(const uint8_t *text, size_t text_len, const struct heavy_layout *layout, const uint8_t *columns,
+                   size_t columns_len, const uint64_t *ends, size_t count, uint64_t n, uint64_t memory,
+                   const struct heavy_hash *hash, uint8_t *out, size_t out_len, size_t *needed, struct heavy_fault *fault);
 
 /* Gives the number of bytes of a part of a text that are whole records, with this byte between two fields: those before the
    last line feed that is not in quotes. It is 0 where there is no such line feed after the first byte. The next part begins

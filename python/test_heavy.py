@@ -2270,6 +2270,30 @@ class Reports(unittest.TestCase):
                     self.assertRaisesRegex(heavy.HeavyError, f"^{text}", heavy.report, given, k, share, workers)
             self.assertRaises(ValueError, heavy.report, RECORDS, 5, None, 0)
 
+    def test_tops(self) -> None:
+        """The greatest keys are the program's, of bytes and of a file, and refused where fewer are certain."""
+        with tempfile.TemporaryDirectory() as room:
+            path = Path(room, "records")
+            for text in (RECORDS, OTHERS, b"", b'"a\n""b",5\nb\n'):
+                path.write_bytes(text)
+                for n in (1, 2, 9):
+                    rows = program("top", str(n), given=text).stdout
+                    for given in (text, path, str(path)):
+                        self.assertEqual(heavy.top_csv(given, n), rows)
+                        self.assertEqual(heavy.top(given, n), heavy._records.rows_of(rows, False))
+        self.assertEqual(heavy.top(RECORDS, 0), [])
+        self.assertEqual(heavy.top(b"k;w\na;0.5\nb;3\n", 1, layout=heavy.Layout(delimiter=";", header=True, key="k", weight="w", decimals=1),
+                                   text=True), [("b", 3)])
+        many = b"a,60000\n" + b"".join(b"k%d\n" % number for number in range(15000))
+        with self.assertRaisesRegex(heavy.HeavyError, "^of the greatest keys only 1 are certain") as refused:
+            heavy.top(many, 3, memory=0)
+        self.assertEqual((refused.exception.kind, refused.exception.number), (heavy.Kind.TOP_UNCERTAIN, 1))
+        self.assertEqual(heavy.top(many, 1, memory=0), [(b"a", 60000)])
+        self.assertEqual(heavy.top(many, 3), [(b"a", 60000), (b"k0", 1), (b"k1", 1)])
+        self.assertRaisesRegex(heavy.HeavyError, "^record 2: zero weight", heavy.top, b"a\nb,0\n")
+        self.assertRaisesRegex(ValueError, "^n must be at least 0", heavy.top, RECORDS, -1)
+        self.assertRaisesRegex(ValueError, "^memory must be at least 0", heavy.top, RECORDS, 1, memory=-1)
+
     def test_records_in_parts(self) -> None:
         """Records are added a few bytes at a time as all of them are, and refused by the same numbers."""
         mark, largest = b"\xef\xbb\xbf", 2**63 - 1

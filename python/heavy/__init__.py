@@ -1,6 +1,7 @@
 """The heavy keys of weighted records: summaries, merges, questions and exact reports, over the library `libheavy.so.1`.
 
     heavy.report("monday.csv", k=100)             # the heavy keys with their weights, exact
+    heavy.top("monday.csv", 10)                   # the ten greatest keys, exact
     summary = heavy.Summary.of_csv("monday.csv", k=100)
     both = heavy.merge(summary, heavy.Summary(saved))
     both.update("10.0.0.1", 5)                    # one item more; heavy.Summary(k=100) begins empty
@@ -26,7 +27,7 @@ from pathlib import Path as _Path
 
 from . import dask, pandas
 from ._faults import Cause, Kind
-from ._files import Info, Summary, Table, merge, report, report_csv
+from ._files import Info, Summary, Table, merge, report, report_csv, top, top_csv
 from ._library import HeavyError
 from ._options import Layout
 from ._records import Bounds, Interval, Row
@@ -34,10 +35,12 @@ from ._window import Window
 
 __all__ = [
     "Bounds", "Cause", "HeavyError", "Info", "Interval", "Kind", "Layout", "Row", "Summary", "Table", "Window", "merge", "report",
-    "report_csv",
+    "report_csv", "top", "top_csv",
 ]
 
-for _public in (Bounds, Cause, HeavyError, Info, Interval, Kind, Layout, Row, Summary, Table, Window, merge, report, report_csv):
+for _public in (
+    Bounds, Cause, HeavyError, Info, Interval, Kind, Layout, Row, Summary, Table, Window, merge, report, report_csv, top, top_csv,
+):
     _public.__module__ = __name__
 
 

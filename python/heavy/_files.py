@@ -680,10 +680,7 @@ class Summary(_File, Mapping[Any, Interval]):
         >>> Summary.of_csv(b"b\\na,5\\n", text=True).top(1)
         [Bounds(key='a', low=5, high=5)]
         """
-        count = integer("n", n)
-        if count < 0:
-            raise ValueError(f"n must be at least 0, not {count}")
-        return self.rows()[:count]
+        return self.rows()[: _counted("n", n)]
 
     def heavy_hitters(self, threshold: Threshold = None, *, certain: bool) -> List[Bounds]:
         """Those of `rows` for keys that weigh more than a share of the total, 1/(k + 1) if none is given, as far as the summary
@@ -821,6 +818,14 @@ class Summary(_File, Mapping[Any, Interval]):
         [Row(key=b'a', weight=5)]
         """
         return self._condensed(items_of(keys, weights, ANY, flag("skip_zero", skip_zero)))
+
+
+def _counted(name: str, number: Any) -> int:
+    """A number from 0 on."""
+    count = integer(name, number)
+    if count < 0:
+        raise ValueError(f"{name} must be at least 0, not {count}")
+    return count
 
 
 def _key(key: bytes, text: bool) -> Any:
@@ -1037,3 +1042,29 @@ def _reported(whole: bytes, k: int, share: Tuple[int, int], count: int, layout: 
         return summary._confirmed(condensed, share, Layout(decimals=layout.decimals))
     except HeavyError:  # told again with the number that the record has among all
         return _reported(whole, k, share, 1, layout)
+
+
+def top(records: Records, n: int = 10, *, memory: int = 256, layout: Layout = PLAIN, text: bool = False) -> List[Row]:
+    """The n keys of CSV records `key,weight`, or those of another layout, that weigh the most, or all where they are fewer. Each
+    has its exact weight, by falling weight and then by rising key. Counters take so many megabytes of memory. Where these leave
+    open which keys are the greatest, that is a `HeavyError`, whose `number` is how many are certain. The rows are those of the
+    program's `top`.
+
+    >>> top(b"a,5\\nb,2\\na,1\\nc,2\\n", 2)
+    [Row(key=b'a', weight=6), Row(key=b'b', weight=2)]
+    """
+    return rows_of(top_csv(records, n, memory=memory, layout=layout), text)
+
+
+def top_csv(records: Records, n: int = 10, *, memory: int = 256, layout: Layout = PLAIN) -> bytes:
+    """The rows of `top`, as `heavy top` prints them.
+
+    >>> top_csv(b"a,5\\nb,2\\na,1\\n", 1)
+    b'a,6\\n'
+    """
+    count, room = (min(_counted(name, it), 2**64 - 1) for name, it in (("n", n), ("memory", memory)))
+    room = min(room * 1_000_000, 2**64 - 1)
+    whole = records_in(records)
+    with placing(records, whole, layout):
+        words = *lent(whole), *layout._words(), count, room, random_words()
+        return answer(calls.heavy_top, *words, guess=SMALL)

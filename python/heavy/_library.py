@@ -31,10 +31,10 @@ class HeavyError(ValueError):
 
     Its text is the program's, in Python's words, and `status` the program's exit status: 2 an option, 3 a record, a file or a
     key, 4 memory. `kind` is a `Kind`, and `cause` a `Cause`, or None where the kind says all. `number` is that of the record,
-    the file or the key, from 1 on, or 0. The others are None where there is nothing to tell: `path` names the file of a record,
-    `line` is the line from 1 on where the record begins, and from Python 3.11 on a note has both. `part` is the path, or else the number from 0 on,
-    of the part of a collection of Dask whose records are refused. `added` is how many items of an `update_many` by batches are
-    added all the same.
+    the file or the key, from 1 on, or how many of the greatest keys are certain, or else 0. The others are None where there is
+    nothing to tell: `path` names the file of a record, `line` is the line from 1 on where the record begins, and from Python
+    3.11 on a note has both. `part` is the path, or else the number from 0 on, of the part of a collection of Dask whose records
+    are refused. `added` is how many items of an `update_many` by batches are added all the same.
     """
 
     path: Any = None
@@ -159,6 +159,7 @@ def _type_calls(library: ctypes.CDLL) -> None:
         "heavy_condense_records": [value, *records, *_OUT],
         "heavy_condense_items": [value, *items, *_OUT],
         "heavy_report": [*records, _NUMBER, _NUMBER, _NUMBER, hashed, *_OUT],
+        "heavy_top": [*records, _NUMBER, _NUMBER, hashed, *_OUT],
     }.items():
         getattr(library, name).argtypes = words
         getattr(library, name).restype = ctypes.c_uint32

@@ -179,6 +179,7 @@ static void try_nulls(void) {
     check("no items to confirm", heavy_confirm_items(value, NULL, 0, NULL, 0, NULL, 0, 0, 0, NULL, 0, &needed, NULL) == HEAVY_DONE);
     check("none to condense", heavy_condense_items(value, NULL, 0, NULL, 0, NULL, 0, NULL, 0, &needed, NULL) == HEAVY_DONE);
     check("no report", heavy_report(NULL, 0, &PLAIN, NULL, 0, NULL, 0, 2, 0, 0, &hash, NULL, 0, &needed, NULL) == HEAVY_DONE);
+    check("no greatest keys", heavy_top(NULL, 0, &PLAIN, NULL, 0, NULL, 0, 2, 0, &hash, NULL, 0, &needed, NULL) == HEAVY_DONE);
     check("no room", heavy_save(value, NULL, 0, &needed, NULL) == HEAVY_TOO_SMALL && needed == 17);
     check("no part", heavy_whole_records(NULL, 0, ',') == 0);
     heavy_free(value);

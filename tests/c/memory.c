@@ -45,7 +45,7 @@ static struct heavy_info info;
    call makes. */
 static struct heavy *value, *other, *table, *made;
 
-enum { CALLS = 22, ITEMS = 90 };
+enum { CALLS = 23, ITEMS = 90 };
 
 static uint32_t call(int which) {
     switch (which) {
@@ -72,6 +72,7 @@ static uint32_t call(int which) {
         return heavy_confirm_records(value, TEXT, 16, &LAYOUT, COLUMNS, 2, COLUMN_ENDS, 2, 1, 2, room, sizeof room, &needed, &told);
     case 20:
         return heavy_condense_records(value, TEXT, 16, &LAYOUT, COLUMNS, 2, COLUMN_ENDS, 2, room, sizeof room, &needed, &told);
+    case 21: return heavy_top(TEXT, 16, &LAYOUT, COLUMNS, 2, COLUMN_ENDS, 2, 2, 0, &HASH, room, sizeof room, &needed, &told);
     default:
         return heavy_report(TEXT, 16, &LAYOUT, COLUMNS, 2, COLUMN_ENDS, 2, 2, 0, 0, &HASH, room, sizeof room, &needed, &told);
     }

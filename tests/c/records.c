@@ -3,7 +3,7 @@
 #include "checks.h"
 #include "files.h"
 
-enum call { SUMMARISE, TABLE, ADD, CONFIRM, CONDENSE, REPORT };
+enum call { SUMMARISE, TABLE, ADD, CONFIRM, CONDENSE, REPORT, TOP };
 
 /* What a call is lent beside the layout: a file, where it takes one, a text, and numbers. */
 struct asked {
@@ -64,6 +64,9 @@ static struct answer ask(struct asked it, struct heavy_layout layout, const char
     case REPORT:
         a.status = heavy_report(text, text_len, lent, words, len, ends, count, it.k, it.p, it.q, &FIXED, out, room, &a.needed, &a.told);
         break;
+    case TOP:
+        a.status = heavy_top(text, text_len, lent, words, len, ends, count, it.k, it.p, &FIXED, out, room, &a.needed, &a.told);
+        break;
     }
     memcpy(a.room, out, room ? room : 1);
     free(text);
@@ -100,6 +103,8 @@ static struct asked report(const char *text, uint64_t k, uint64_t p, uint64_t q)
     return (struct asked){REPORT, NULL, 0, text, k, p, q};
 }
 
+static struct asked top(const char *text, uint64_t n) { return (struct asked){TOP, NULL, 0, text, n, 0, 0}; }
+
 static void try_layouts(void) {
     struct heavy_layout layout = PLAIN;
     check("a plain layout", gave(ask(summary("a,5\nb,3\n"), layout, "", 64), BYTES(ONE)));
@@ -131,7 +136,7 @@ static void try_bad_layouts(void) {
     bad[2].decimals = 10;
     bad[3].has_weight = 2;
     bad[4].has_weight = 1;
-    for (enum call call = SUMMARISE; call <= REPORT; call++) {
+    for (enum call call = SUMMARISE; call <= TOP; call++) {
         struct asked it = {call, ONE, sizeof ONE - 1, "a,0\n", 2, 1, 1};
         for (size_t i = 0; i < sizeof bad / sizeof *bad; i++)
             check("bad numbers of a layout", told(ask(it, bad[i], "", 64), HEAVY_USAGE, HEAVY_BAD_LAYOUT, 0, 0));
@@ -205,6 +210,35 @@ static void try_reports(void) {
     check("a report's share", told(ask(report("a,0\n", 2, 1, 4), PLAIN, "", 64), HEAVY_USAGE, HEAVY_BAD_THRESHOLD, 0, 0));
 }
 
+static void try_tops(void) {
+    struct heavy_layout tenths = {',', 0, 0, 1, 1};
+    check("the greatest keys", gave(ask(top("b,3\na,5\nc,1\nb,1\n", 2), PLAIN, "", 64), BYTES("a,5\nb,4\n")));
+    check("equal weights by rising key", gave(ask(top("b,3\na,3\nc,3\n", 2), PLAIN, "", 64), BYTES("a,3\nb,3\n")));
+    check("all keys", gave(ask(top("b,3\na,5\n", 9), PLAIN, "", 64), BYTES("a,5\nb,3\n")));
+    check("no key", gave(ask(top("b,3\na,5\n", 0), PLAIN, "", 64), "", 0));
+    check("tenths", gave(ask(top("b,3\na,0.5\n", 1), tenths, "1 2", 64), BYTES("b,3.0\n")));
+    struct answer a = ask(top("b,3\na,5\n", 2), PLAIN, "", 7);
+    check("a small room", a.status == HEAVY_TOO_SMALL && a.needed == 8 && a.room[0] == 0xAA);
+    check("a bad record", told(ask(top("b\na,0\n", 2), PLAIN, "", 64), HEAVY_REFUSED, HEAVY_BAD_RECORD,
+                               HEAVY_RECORD_ZERO_WEIGHT, 2));
+}
+
+/* Of so many keys of one weight that counters of the least memory leave open which are the greatest, only the heavier one is
+   certain. */
+static void try_uncertain_tops(void) {
+    static uint8_t text[12 * 20000], room[64];
+    struct heavy_fault fault;
+    size_t len = (size_t)sprintf((char *)text, "a,60000\n"), needed = 77;
+    for (int i = 0; i < 15000; i++)
+        len += (size_t)sprintf((char *)text + len, "k%d\n", i);
+    uint32_t status = heavy_top(text, len, &PLAIN, NULL, 0, NULL, 0, 3, 0, &FIXED, room, sizeof room, &needed, &fault);
+    check("three of many", status == HEAVY_REFUSED && needed == 0 && fault.kind == HEAVY_TOP_UNCERTAIN && fault.number == 1);
+    status = heavy_top(text, len, &PLAIN, NULL, 0, NULL, 0, fault.number, 0, &FIXED, room, sizeof room, &needed, &fault);
+    check("as many as are certain", status == HEAVY_DONE && needed == 8 && memcmp(room, "a,60000\n", 8) == 0);
+    status = heavy_top(text, len, &PLAIN, NULL, 0, NULL, 0, 3, 64000000, &FIXED, room, sizeof room, &needed, &fault);
+    check("three of many, in more memory", status == HEAVY_DONE && needed == 18 && memcmp(room, "a,60000\nk0,1\nk1,1\n", 18) == 0);
+}
+
 static void try_whole_records(void) {
     struct {
         const char *text;
@@ -274,6 +308,8 @@ static void try_texts(void) {
         {{HEAVY_NO_COLUMN, 0, 0}, "the header has no such column"},
         {{HEAVY_WEIGHT_OUTSIDE, 0, 0}, "file 1: a key's weight in the input is outside its bounds"},
         {{HEAVY_BAD_LAYOUT, 0, 0}, "header, allow_zero and has_weight must be 0 or 1, decimals 0 to 9"},
+        {{HEAVY_TOP_UNCERTAIN, 0, 0}, "of the greatest keys only 0 are certain"},
+        {{HEAVY_TOP_UNCERTAIN, 0, 3}, "of the greatest keys only 3 are certain"},
         {{HEAVY_NO_VALUE, 0, 0}, "a handle is NULL, or is lent twice"},
         {{77, 0, 0}, "unknown fault"},
         {{HEAVY_BAD_RECORD, 77, 1}, "unknown fault"},
@@ -298,6 +334,8 @@ int main(void) {
     try_bad_layouts();
     try_saved();
     try_reports();
+    try_tops();
+    try_uncertain_tops();
     try_whole_records();
     try_infos();
     try_texts();

@@ -241,7 +241,15 @@ static int is_rows(const uint8_t *room, size_t needed, const char *rows, size_t 
     return needed == wanted && memcmp(room, rows, wanted) == 0;
 }
 
-/* What the stream's records and items confirm, in any order, condensed or not, and report is the dictionary's rows. */
+static uint64_t count_of(const char *rows, size_t len) {
+    uint64_t count = 0;
+    for (size_t i = 0; i < len; i++)
+        count += rows[i] == '\n';
+    return count;
+}
+
+/* What the stream's records and items confirm, in any order, condensed or not, and report is the dictionary's rows, and so are
+   as many of the greatest keys. */
 static int confirms(const struct stream *s) {
     char rows[1024];
     uint8_t text[1024] = "key;weight\n", keys[KEYS * KEYS], *room = new_room(ROOM), *parts = new_room(ROOM);
@@ -271,6 +279,8 @@ static int confirms(const struct stream *s) {
                                            asked()) == HEAVY_DONE && is_rows(room, needed, rows, wanted);
     right = right && heavy_report(text, len, &NAMED, COLUMNS, 9, ENDS, 2, k, 0, 0, &hash, room, ROOM, &needed, asked())
             == HEAVY_DONE && is_rows(room, needed, rows, wanted);
+    right = right && heavy_top(text, len, &NAMED, COLUMNS, 9, ENDS, 2, count_of(rows, wanted), below(1000000), &hash, room, ROOM,
+                               &needed, asked()) == HEAVY_DONE && is_rows(room, needed, rows, wanted);
     free(room);
     free(parts);
     return right;

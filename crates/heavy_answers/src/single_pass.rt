@@ -100,7 +100,7 @@ fn answer_by_one_thread<R: Read + Drop>(
 {
     let options = &asked.options;
     match pass {
-        Pass::Summarise => summary_bytes_from(alloc, options.k, Method::MisraGries, records),
+        Pass::Summarise => summary_bytes_from(alloc, options.k, records),
         Pass::Table => {
             table_bytes_from(alloc, options.width, options.depth, options.seed, records)
         }

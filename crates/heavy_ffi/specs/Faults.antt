@@ -84,13 +84,14 @@ cause_of (tool.CannotMerge n c) = merge_cause c
 cause_of (tool.BadKey n c) = key_cause c
 cause_of _ = 0
 
--- the number of the record, file or key that a fault is of, from 1 on, and else 0
+-- the number of the record, file or key that a fault is of, from 1 on, or of the keys that are certain, and else 0
 abbrev pub number_of : ToolError → ℕ
 number_of (tool.BadRecord n c) = n
 number_of (tool.BadFile n f) = n
 number_of (tool.MixedKinds n) = n
 number_of (tool.CannotMerge n c) = n
 number_of (tool.BadKey n c) = n
+number_of (tool.TopUncertain n m) = n
 number_of _ = 0
 
 -- the status and the numbers of a refusal

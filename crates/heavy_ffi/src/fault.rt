@@ -7,7 +7,7 @@ ghost use Rattle.heavy_ffi.specs.Faults.{merge_cause, no_fault, no_value, number
 use hh_faults::{BadRecordCause, KeyCause, MergeCause, SavedFault, ToolError};
 
 /// Why a call refused: which fault, its cause, and the number of the record, file or key, from 1
-/// on. A fault without a cause or a number has 0 there.
+/// on, or how many keys are certain. A fault without a cause or a number has 0 there.
 #[derive(Clone, Copy)]
 #[repr(C)]
 pub struct Fault {
@@ -151,6 +151,7 @@ fn number_of(fault: &ToolError) -> u64
         | ToolError::MixedKinds { number }
         | ToolError::CannotMerge { number, .. }
         | ToolError::BadKey { number, .. } => number,
+        ToolError::TopUncertain { certain, .. } => certain,
         _ => 0,
     }
 }

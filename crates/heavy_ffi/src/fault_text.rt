@@ -97,6 +97,10 @@ fn numbered_of(kind: u32, cause: u32, number: u64) -> Option<ToolError>
             None => None,
         },
         11 if cause == 0 => Some(ToolError::MixedKinds { number }),
+        27 if cause == 0 => Some(ToolError::TopUncertain {
+            certain: number,
+            most: 0,
+        }),
         _ => None,
     }
 }
@@ -116,6 +120,10 @@ fn plain_of(kind: u32) -> Option<ToolError>
         19 => Some(ToolError::BadThreshold),
         24 => Some(ToolError::NoColumn),
         25 => Some(ToolError::WeightOutside),
+        27 => Some(ToolError::TopUncertain {
+            certain: 0,
+            most: 0,
+        }),
         _ => None,
     }
 }

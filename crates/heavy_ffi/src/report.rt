@@ -1,8 +1,10 @@
-//! The exact report of a text's records, and how a text is cut.
+//! The exact report of a text's records, their greatest keys, and how a text is cut.
 
 ghost use Rattle.std.specs.Prelude.{◌≡◌, ◌≢◌, length, IfErr, IfOk, IfSome, IsErrAnd, None};
+ghost use Rattle.hh_top.specs.Rooms.{counted_in};
 ghost use Rattle.hh_records.specs.Refusals.{RefusedAfter};
-ghost use Rattle.hh_library.specs.LaidOut.{ReportsRows, bad_report, text_laid};
+ghost use Rattle.hh_library.specs.LaidOut.{GivesTop, ReportsRows, TopIsRefused};
+ghost use Rattle.hh_library.specs.LaidOut.{bad_report, text_laid};
 ghost use Rattle.heavy_ffi.specs.Items.{keys_of};
 ghost use Rattle.heavy_ffi.specs.Layouts.{AreWholeRecordsBy, Laid, LaidRefused, layout_fault};
 ghost use Rattle.heavy_ffi.specs.Layouts.{share_given};
@@ -13,7 +15,7 @@ use crate::hash_words::HashWords;
 use crate::layout::{LaidText, TextLayout, share_given};
 use crate::room::{USAGE, answer};
 use hh_faults::ToolError;
-use hh_library::report_bytes;
+use hh_library::{report_bytes, top_bytes};
 use hh_pieces::whole_records;
 use hh_records::Format;
 use std::alloc::Global;
@@ -83,6 +85,66 @@ pub extern "C" fn proved_report(
     }
     let share = share_given(p, q);
     let rows = report_of(alloc, laid, k, share, hash);
+    answer(rows, out, needed, fault)
+}
+
+/// The rows of the greatest keys of the records of a text, whose keys are hashed by these words.
+fn top_of(
+    alloc: Global,
+    laid: LaidText,
+    n: u64,
+    memory: u64,
+    hash: &HashWords,
+) -> Result<Vec<u8>, ToolError>
+    requires { layout_fault laid.layout.now (length laid.columns.now) laid.ends.now ≡ None }
+    ensures rows { IfOk result (λ rows. Laid laid.entry.layout.now
+        (keys_of laid.entry.columns.now laid.entry.ends.now)
+        (λ l. GivesTop n l.decimals (text_laid l laid.entry.text.now) rows.items)) }
+    ensures refused { IfErr result (LaidRefused laid.entry.layout.now
+        (keys_of laid.entry.columns.now laid.entry.ends.now)
+        (λ l. TopIsRefused n (counted_in memory) (text_laid l laid.entry.text.now))) }
+{
+    let layout = laid.layout_by(alloc, hash)?;
+    top_bytes(alloc, n, memory, &layout, laid.text)
+}
+
+/// Gives the rows of the n greatest keys of a text's records, or of all where they are fewer, by
+/// counters that take `memory` bytes. Behind the layout come the records, and then whether n keys
+/// are certain.
+#[unsafe(no_mangle)]
+pub extern "C" fn proved_top(
+    alloc: Global,
+    text: &[u8],
+    layout: &TextLayout,
+    columns: &[u8],
+    ends: &[u64],
+    n: u64,
+    memory: u64,
+    hash: &HashWords,
+    out: &mut [u8],
+    needed: &mut usize,
+    fault: &mut Fault,
+) -> u32
+    ensures answers { AnswersAfter (layout_fault layout.now (length columns.now) ends.now)
+        (λ status. IsOutcome (λ rows. Laid layout.now (keys_of columns.now ends.now)
+        (λ l. GivesTop n l.decimals (text_laid l text.now) rows))
+        (LaidRefused layout.now (keys_of columns.now ends.now)
+        (λ l. TopIsRefused n (counted_in memory) (text_laid l text.now)))
+        status out.old) result out.old out.new needed.new fault.new }
+    ensures no_bytes { result ≢ 0 → result ≢ 5 → needed.new ≡ 0 }
+{
+    let laid = LaidText {
+        text,
+        layout,
+        columns,
+        ends,
+    };
+    if let Some(bad) = laid.test() {
+        *needed = 0;
+        *fault = bad;
+        return USAGE;
+    }
+    let rows = top_of(alloc, laid, n, memory, hash);
     answer(rows, out, needed, fault)
 }
 

@@ -5,11 +5,12 @@ use Rattle.hh_stream.specs.Weights.{Bytes, Entry}
 use Rattle.hh_summaries.specs.Report.{weights_at}
 use Rattle.hh_tally.specs.Tallies.{AreBounds}
 use Rattle.hh_tally.specs.declared.room.Room.{Room}
+use Rattle.hh_top.specs.Rooms.{counted_in, shared_room, whole_room}
 use Rattle.hh_top.specs.Top.{GreatestRefused, IsTopFault, IsUncertain, ShortlistView, stand_out}
 use Rattle.hh_records.specs.Refusals.{RecordsRefused}
 use Rattle.hh_records.specs.Streams.{Known, Reading}
 use Rattle.hh_files.specs.FilePasses.{TalliesRecords, WeighsRecords}
-use Rattle.hh_files.specs.TopFiles.{IsSharedRoom, ListRefused, TellsTop, TopRefused, counted_in, shared_room, whole_room}
+use Rattle.hh_files.specs.TopFiles.{IsSharedRoom, ListRefused, TellsTop, TopRefused}
 use Rattle.hh_files.specs.declared.topping.TopOptions.{TopOptions}
 use Rattle.hh_faults.specs.declared.error.ToolError.{ToolError}
 use Rattle.hh_faults.specs.declared.error.ToolError.TheVariants as tool

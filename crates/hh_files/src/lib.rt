@@ -10,7 +10,6 @@ mod confirming;
 mod file_passes;
 mod file_pieces;
 mod reporting;
-mod rooms;
 mod summarising;
 mod tabulating;
 mod topping;

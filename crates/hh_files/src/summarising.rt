@@ -12,7 +12,7 @@ ghost use Rattle.hh_files.specs.SummaryFiles.{SavesSummary, SummarisesRecords};
 ghost use Rattle.hh_files.specs.SummaryFiles.{bad_summary_of_files};
 
 use crate::file_passes::tally_of_sources;
-use hh_commands::{Method, summary_bytes_from};
+use hh_commands::summary_bytes_from;
 use hh_counters::laws::misra_gries_is_honest;
 use hh_counters::{MAX_K, Summary};
 use hh_faults::ToolError;
@@ -90,7 +90,7 @@ pub fn summarise_files<T: Threads + Wait + Sync, S: ReadAt + Sync>(
         return Err(ToolError::BadWorkers);
     }
     if workers == 1 {
-        let bytes = summary_bytes_from(alloc, k, Method::MisraGries, records)?;
+        let bytes = summary_bytes_from(alloc, k, records)?;
         records.check()?;
         return Ok(bytes);
     }

@@ -4,22 +4,22 @@ ghost use Rattle.std.specs.Prelude.{◌≡◌, ◌+◌, ◌*◌, ◌≤◌, All,
 ghost use Rattle.hh_stream.specs.Ranges.{in_range};
 ghost use Rattle.hh_summaries.specs.Counters.{max_k};
 ghost use Rattle.hh_tally.specs.Tallies.{IsRoom};
+ghost use Rattle.hh_top.specs.Rooms.{counted_in};
 ghost use Rattle.hh_workers.specs.Workers.{max_workers};
 ghost use Rattle.hh_pieces.specs.Sources.{sources_known};
 ghost use Rattle.hh_records.specs.Refusals.{RecordsRefused};
 ghost use Rattle.hh_files.specs.FilePasses.{TalliesRecords};
 ghost use Rattle.hh_files.specs.TopFiles.{FindsTop, IsSharedRoom, ListRefused, PrintsTop};
-ghost use Rattle.hh_files.specs.TopFiles.{TopFilesRefused, TopRefused, counted_in};
+ghost use Rattle.hh_files.specs.TopFiles.{TopFilesRefused, TopRefused};
 
 use crate::file_passes::{tally_of_sources, weights_in};
-use crate::rooms::{counted_in, shared_room, whole_room};
 use hh_counters::Heavy;
 use hh_faults::ToolError;
 use hh_pieces::{ReadAt, SourceRecords};
 use hh_rows::{RowOptions, printed_text};
 use hh_stream::{TakeItems, in_range};
 use hh_tally::Room;
-use hh_top::Shortlist;
+use hh_top::{Shortlist, counted_in, shared_room, whole_room};
 use hh_workers::MAX_WORKERS;
 use std::alloc::Global;
 use std::sync::Wait;

@@ -4,6 +4,8 @@ use Rattle.hh_stream.specs.Ranges.{in_range}
 use Rattle.hh_stream.specs.Weights.{Entry, total_of}
 use Rattle.hh_summaries.specs.Counters.{SummaryView, max_k}
 use Rattle.hh_summaries.specs.Report.{heavy}
+use Rattle.hh_tally.specs.Tallies.{AreBounds, TallyView}
+use Rattle.hh_top.specs.Top.{GreatestRefused, top}
 use Rattle.hh_records.specs.Layouts.{names_columns, stream_with}
 use Rattle.hh_records.specs.Streams.{Known, ReadsAs}
 use Rattle.hh_records.specs.declared.layout.Layout.{Layout}
@@ -80,3 +82,17 @@ abbrev pub ReportsRows : ℕ → Option (ℕ × ℕ) → ℕ → Known → List 
 ReportsRows k share d known rows =
     (t : ℕ × ℕ) × (xs : List Entry) × (share_or_least share k ≡ Some t) × ReadsAs known (Ok xs)
     × (rows ≡ printed_rows (total_of xs) (rows_in_units d) (heavy xs t.0 t.1))
+
+-- the records read as items, whose weights the tally bounds
+abbrev pub TalliesText : Known → TallyView → Type 0
+TalliesText known t = (xs : List Entry) × ReadsAs known (Ok xs) × AreBounds t xs
+
+-- the rows are the n greatest keys of the stream that the records are
+abbrev pub GivesTop : ℕ → ℕ → Known → List ℕ → Type 0
+GivesTop n d known rows =
+    (xs : List Entry) × ReadsAs known (Ok xs) × (rows ≡ printed_rows (total_of xs) (rows_in_units d) (top n xs))
+
+-- what a refusal of the n greatest keys tells: of the records, or how many are certain where k keys are counted
+abbrev pub TopIsRefused : ℕ → ℕ → Known → ToolError → Type 0
+TopIsRefused n k known e =
+    RecordsRefused known e ⊎ ((xs : List Entry) × ReadsAs known (Ok xs) × GreatestRefused xs n k e)

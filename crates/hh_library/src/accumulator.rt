@@ -157,9 +157,9 @@ impl Accumulator {
         other.spent = 0;
         make_whole(alloc, &mut self.form)?;
         make_whole(alloc, &mut other.form)?;
-        match (&mut self.form, &other.form) {
-            (Form::Whole(saved), Form::Whole(next)) => merge_saved(saved, 2, next),
-            _ => unreachable!("such forms are whole"),
+        match &mut self.form {
+            Form::Whole(saved) => merge_saved(saved, 2, other.form.whole()),
+            _ => unreachable!("such a form is whole"),
         }
     }
 
@@ -173,10 +173,7 @@ impl Accumulator {
         check_keys(keys)?;
         self.spent = 0;
         make_whole(alloc, &mut self.form)?;
-        match &self.form {
-            Form::Whole(saved) => Ok(answers_of(alloc, saved, keys)?),
-            _ => unreachable!("such a form is whole"),
-        }
+        Ok(answers_of(alloc, self.form.whole(), keys)?)
     }
 
     /// Gives the least and the most that `key` can weigh.
@@ -191,10 +188,8 @@ impl Accumulator {
         let key = Key::of_bytes(alloc, key)?;
         self.spent = 0;
         make_whole(alloc, &mut self.form)?;
-        match &self.form {
-            Form::Whole(saved) => Ok(answer_of(saved, slack_of(saved), &key)),
-            _ => unreachable!("such a form is whole"),
-        }
+        let saved = self.form.whole();
+        Ok(answer_of(saved, slack_of(saved), &key))
     }
 
     /// Gives a copy of the value.
@@ -219,10 +214,7 @@ impl Accumulator {
     {
         self.spent = 0;
         make_whole(alloc, &mut self.form)?;
-        match &self.form {
-            Form::Whole(saved) => Ok(write(alloc, saved)?),
-            _ => unreachable!("such a form is whole"),
-        }
+        Ok(write(alloc, self.form.whole())?)
     }
 }
 
@@ -232,6 +224,17 @@ impl Form {
         ensures { Grows result }
     {
         Form::Whole(Saved::Counters(Summary::empty(alloc, 1)))
+    }
+
+    /// Gives the value of a form that is the value itself.
+    fn whole(&self) -> &Saved
+        requires { self.now ≡ Whole (value_of self.now) }
+        ensures { result.now ≡ value_of self.now }
+    {
+        match self {
+            Form::Whole(saved) => saved,
+            _ => unreachable!("such a form is whole"),
+        }
     }
 
     /// Tells what the items of the value weigh.

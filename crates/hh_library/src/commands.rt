@@ -8,3 +8,4 @@ pub(crate) mod grow_table;
 pub(crate) mod keys;
 pub(crate) mod laid_out;
 pub(crate) mod plain;
+pub(crate) mod top;

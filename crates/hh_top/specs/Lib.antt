@@ -1,2 +1,3 @@
+pub mod Rooms
 pub mod Top
 pub mod Laws

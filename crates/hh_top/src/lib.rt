@@ -3,5 +3,7 @@
 
 mod choice;
 pub mod laws;
+mod rooms;
 
 pub use choice::Shortlist;
+pub use rooms::{counted_in, shared_room, whole_room};

@@ -62,12 +62,11 @@ pub fn summary_by_monitoring<R: ReadRecords>(
 
 /// The saved summary of some records: Misra-Gries with k counters.
 ///
-/// k is tested before anything is read. Both methods give the same bytes, and are done in the same
-/// way: by a monitor that is translated at the end.
+/// k is tested before anything is read. It is made by a monitor that is translated at the end, which
+/// gives the bytes of both methods.
 pub fn summary_bytes_from<R: ReadRecords>(
     alloc: Global,
     k: u64,
-    _method: Method,
     records: R,
 ) -> Result<Vec<u8>, ToolError>
     ensures saved { IfOk result (λ bytes. SavesStream (λ xs. Counters (sketch_of k xs))

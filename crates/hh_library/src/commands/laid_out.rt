@@ -88,7 +88,7 @@ pub fn add_records<R: ReadRecords>(
 }
 
 /// All rows with this many digits of a weight after its point, and no shares.
-fn rows_in_units(decimals: u8) -> RowOptions
+pub(crate) fn rows_in_units(decimals: u8) -> RowOptions
     ensures { result ≡ rows_in_units decimals }
 {
     RowOptions {

@@ -25,8 +25,8 @@ use hh_pieces::Records;
 use std::alloc::Global;
 use std::io::Read;
 
-/// [`summary_bytes_from`](hh_commands::summary_bytes_from) of the records of a reader. Keys are
-/// hashed by the words that all runs have.
+/// [`summary_bytes_from`](hh_commands::summary_bytes_from) of the records of a reader, whatever the
+/// `method` is: both give the same bytes. Keys are hashed by the words that all runs have.
 pub fn summary_bytes<R: Read + Drop>(
     alloc: Global,
     k: u64,
@@ -39,7 +39,8 @@ pub fn summary_bytes<R: Read + Drop>(
         RefusedAfter (bad_k k) (text_known (R.remaining reader)) fault) }
     ensures bad_k { IfSome (bad_k k) (λ fault. result ≡ Err fault) }
 {
-    summary_bytes_from(alloc, k, method, Records::of_reader(alloc, reader))
+    let _ = method;
+    summary_bytes_from(alloc, k, Records::of_reader(alloc, reader))
 }
 
 /// [`table_bytes_from`](hh_commands::table_bytes_from) of the records of a reader.

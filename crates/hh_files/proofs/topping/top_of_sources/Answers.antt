@@ -1,7 +1,8 @@
 use Rattle.std.proofs.Common.{ℕ, sym, ap, ◌∙◌, subst}
 use Rattle.hh_tally.specs.Tallies.{TallyView}
 use Rattle.hh_pieces.specs.Sources.{sources_known}
-use Rattle.hh_files.specs.TopFiles.{FindsTop, counted_in}
+use Rattle.hh_top.specs.Rooms.{counted_in}
+use Rattle.hh_files.specs.TopFiles.{FindsTop}
 use Rattle.hh_files.proofs.TopFacts.{records_refuse, shared_refused}
 use Rattle.hh_files.proofs.topping.top_of_sources.Goals as goal
 

@@ -3,7 +3,7 @@
 ghost use Rattle.std.specs.Prelude.{◌≡◌, ◌+◌, ◌*◌, ◌/◌, ◌≤◌, max, min};
 ghost use Rattle.hh_summaries.specs.Counters.{max_k};
 ghost use Rattle.hh_tally.specs.Tallies.{IsRoom};
-ghost use Rattle.hh_files.specs.TopFiles.{counted_in, shared_room, whole_room};
+ghost use Rattle.hh_top.specs.Rooms.{counted_in, shared_room, whole_room};
 
 use hh_counters::MAX_K;
 use hh_tally::{MAX_KEYS, Room};
@@ -21,7 +21,7 @@ const KEY_COST: u64 = 128;
 const MERGED_COST: u64 = 256;
 
 /// How many keys are counted at most, where counters have `memory` bytes.
-pub(crate) fn counted_in(memory: u64) -> u64
+pub fn counted_in(memory: u64) -> u64
     ensures counted { result ≡ counted_in memory }
     ensures most { result ≤ max_k }
 {
@@ -30,7 +30,7 @@ pub(crate) fn counted_in(memory: u64) -> u64
 
 /// Room for the tally of one worker in `memory` bytes, a few more or less, where the tallies of
 /// several are merged.
-pub(crate) fn shared_room(memory: u64) -> Room
+pub fn shared_room(memory: u64) -> Room
     ensures room { result ≡ shared_room memory }
     ensures fits { IsRoom result }
     ensures share { 2 * (counted_in memory + 1) ≤ result.few }
@@ -45,7 +45,7 @@ pub(crate) fn shared_room(memory: u64) -> Room
 }
 
 /// Room for the tally of the one worker who has all `memory` bytes, a few more or less.
-pub(crate) fn whole_room(memory: u64) -> Room
+pub fn whole_room(memory: u64) -> Room
     ensures room { result ≡ whole_room memory }
     ensures fits { IsRoom result }
     ensures share { 2 * (counted_in memory + 1) ≤ result.few }
