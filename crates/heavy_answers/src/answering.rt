@@ -17,7 +17,7 @@ use heavy_host::read_files;
 use heavy_requests::{Asked, MEGABYTE};
 use hh_commands::{Comparison, ask_rows, describe_file, list_rows, merge_bytes};
 use hh_faults::ToolError;
-use hh_files::{TopOptions, report_files, top_files};
+use hh_files::{TopOptions, report_files, report_once, top_files};
 use hh_reports::{check_options, report_rows};
 use hh_rows::{Sink, put};
 use hh_stream::in_range;
@@ -76,7 +76,8 @@ fn top<T: Threads + Wait + Sync, H: Host>(
 
 /// Makes the rows of the report of the records that are `asked` for. All inputs are opened first,
 /// then the options are tested, and only then is anything read: a pipe, which can be read only
-/// once, is untouched when an option is refused. By a plan, one thread reads the inputs once.
+/// once, is untouched when an option is refused. By a plan, or if once is asked for, one thread
+/// reads the inputs once.
 fn report<T: Threads + Wait + Sync, H: Host>(
     threads: &T,
     host: &H,
@@ -88,6 +89,11 @@ fn report<T: Threads + Wait + Sync, H: Host>(
         (ReportFails (H.opens host.now) (H.unopened host.now) asked.now) }
 {
     let alloc = host.alloc();
+    if asked.once {
+        let memory = asked.memory.saturating_mul(MEGABYTE);
+        let records = open_records(host, asked)?;
+        return report_once(alloc, &asked.options, &asked.rows, memory, records);
+    }
     if asked.by_plan {
         let records = open_records(host, asked)?;
         return report_rows(threads, alloc, &asked.options, &asked.rows, records);

@@ -19,7 +19,7 @@ use Rattle.hh_rows.specs.declared.output.Form.TheVariants as form
 use Rattle.hh_rows.specs.declared.output.Output.{Output}
 use Rattle.heavy_arguments.specs.CommandLine.{IsProgram, memory_of, name_of, workers_of}
 use Rattle.heavy_arguments.specs.Found.{IsFlag, IsNumber, IsNumberGiven, number_of_kind, text_found}
-use Rattle.heavy_arguments.specs.declared.arguments.TheConstants.{ALLOW_ZERO, BAD_AS, DECIMALS, DELIMITER, DEPTH, EXPLAIN, GREATEST, HEADER, JSON, K, KEY, KEYS, LINES, MEMORY, METHOD, NAMES, NO_QUOTES, OUTPUT, PIECES, PREFIX, PROGRESS, RECORDS, SAVED_FILES, SEED, SHARE, SQUEEZE, THRESHOLD, TOP, TREE, UNTIL, WEIGHT, WIDTH, WORKERS}
+use Rattle.heavy_arguments.specs.declared.arguments.TheConstants.{ALLOW_ZERO, BAD_AS, DECIMALS, DELIMITER, DEPTH, EXPLAIN, GREATEST, HEADER, JSON, K, KEY, KEYS, LINES, MEMORY, METHOD, NAMES, NO_QUOTES, ONCE, OUTPUT, PIECES, PREFIX, PROGRESS, RECORDS, SAVED_FILES, SEED, SHARE, SQUEEZE, THRESHOLD, TOP, TREE, UNTIL, WEIGHT, WIDTH, WORKERS}
 use Rattle.heavy_arguments.specs.declared.options.Argument.{Argument}
 use Rattle.heavy_arguments.specs.declared.verbs.Verb.{Verb}
 use Rattle.heavy_host.specs.Words.{AreAllWords, word_of}
@@ -151,7 +151,8 @@ pub record AsksFor (name : Text) (found : Found) (asked : Asked) : Type 0 where
   pub plan : asked.by_plan ≡ asks_plan found
   pub method : asked.method.items ≡ word_of (text_found (λ t. t.now) found METHOD)
   pub greatest : IsNumberOf (λ t. t.now) found GREATEST asked.greatest
-  pub memory : IsNumber found MEMORY.name.now (2 ^ 64) (memory_of asked.verb) asked.memory
+  pub once : IsFlag found ONCE.name.now asked.once
+  pub memory : IsNumber found MEMORY.name.now (2 ^ 64) (memory_of asked.verb asked.once) asked.memory
   pub rows : AreRowOptions found asked.rows
   pub output : IsOutput found asked.output
   pub files : map (λ w. w.items) asked.files.items ≡ all_words found SAVED_FILES.name.now

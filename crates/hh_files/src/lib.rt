@@ -1,5 +1,6 @@
 //! Files of any size, which workers read in pieces in threads of their own: exact reports of them,
-//! and the passes that make a summary or a table, confirm a summary and condense records.
+//! and the passes that make a summary or a table, confirm a summary and condense records. A report
+//! by one reading, of which nothing is kept, stands here, too.
 #![tactic(auto)]
 
 mod by_workers;
@@ -7,6 +8,7 @@ mod condensing;
 mod confirming;
 mod file_passes;
 mod file_pieces;
+mod once;
 mod reporting;
 mod rooms;
 mod summarising;
@@ -15,6 +17,7 @@ mod topping;
 
 pub use condensing::condense_files;
 pub use confirming::confirm_files;
+pub use once::report_once;
 pub use reporting::report_files;
 pub use summarising::summarise_files;
 pub use tabulating::table_files;

@@ -1,0 +1,47 @@
+-- Reports of records that are read once, by a tally.
+use Rattle.std.specs.Prelude.{◌≡◌, ◌+◌, ◌*◌, ◌/◌, ◌<◌, ℕ, ⊤, max, min, length, Some}
+use Rattle.hh_tally.specs.Tallies.{TallyView, contenders_of, max_keys, unsure_of}
+use Rattle.hh_tally.specs.declared.room.Room.{Room}
+use Rattle.hh_records.specs.Refusals.{RecordsRefused}
+use Rattle.hh_records.specs.Streams.{Known}
+use Rattle.hh_rows.specs.Thresholds.{threshold_of}
+use Rattle.hh_rows.specs.declared.report_options.ReportOptions.{ReportOptions}
+use Rattle.hh_reports.specs.Report.{AreOptions, StartRefused}
+use Rattle.hh_files.specs.FilePasses.{TalliesRecords}
+use Rattle.hh_faults.specs.declared.error.ToolError.{ToolError}
+use Rattle.hh_faults.specs.declared.error.ToolError.TheVariants as tool
+
+-- the room of a tally by k and by the bytes of memory, or 256,000 if that is more: a key in 128, and 2 (k + 1) keys whatever bytes
+-- they have
+abbrev pub once_room : ℕ → ℕ → Room
+once_room k memory = record {
+  keys = max (2 * (k + 1)) (min max_keys (max 256000 memory / 128));
+  few = 2 * (k + 1);
+  bytes = max 256000 memory / 4;
+}
+
+-- of the keys that can weigh more than p/q of the total by this tally, it isn't sure of so many, some, and of the others it is
+pub record IsUncertain (p q : ℕ) (t : TallyView) (certain open : ℕ) : Type 0 where
+  pub some : 0 < open
+  pub open : open ≡ length (unsure_of t (contenders_of p q t))
+  pub all : certain + open ≡ length (contenders_of p q t)
+
+-- what a refusal by a tally tells
+abbrev pub TallyRefused : ℕ → ℕ → TallyView → ToolError → Type 0
+TallyRefused p q t (tool.ReportUncertain certain open) = IsUncertain p q t certain open
+TallyRefused p q t tool.Memory = ⊤
+TallyRefused p q t _ = ⊥
+
+-- what a refusal of the keys above p/q of the records' total tells: that a tally of the records with this room leaves some
+-- open, or why the records are refused
+abbrev pub KeysRefused : Room → ℕ → ℕ → Known → ToolError → Type 0
+KeysRefused room p q known (tool.ReportUncertain certain open) =
+    (t : TallyView) × TalliesRecords room known t × IsUncertain p q t certain open
+KeysRefused room p q known e = RecordsRefused known e
+
+-- what a refusal tells: by the threshold of the options that keys are left open, or what that of any report tells
+abbrev pub OnceRefused : ReportOptions → ℕ → Known → ToolError → Type 0
+OnceRefused o memory known (tool.ReportUncertain certain open) =
+    AreOptions o × (p : ℕ) × (q : ℕ) × (threshold_of o.k o.threshold ≡ Some (p, q))
+    × KeysRefused (once_room o.k memory) p q known (tool.ReportUncertain certain open)
+OnceRefused o memory known e = StartRefused o known e
