@@ -44,10 +44,10 @@ pub(crate) fn tell_next(rt: &HostRuntime, most: u64, decimals: u8, memory: u64) 
 
 /// Prints how many more keys can be heavy than those that are certain, where counters had `memory`
 /// megabytes.
-pub(crate) fn tell_open(rt: &HostRuntime, open: u64, memory: u64) {
-    let keys = if open == 1 { "key" } else { "keys" };
+pub(crate) fn tell_uncertain(rt: &HostRuntime, uncertain: u64, memory: u64) {
+    let keys = if uncertain == 1 { "key" } else { "keys" };
     let _ = eprintln!(rt;
-        "  {open} more {keys} can be heavy: a --memory above {memory} leaves fewer, and none \
+        "  {uncertain} more {keys} can be heavy: a --memory above {memory} leaves fewer, and none \
         are left without --once"
     );
 }

@@ -3,7 +3,7 @@
 
 use crate::bad_records::tell_record;
 use crate::columns::tell_columns;
-use crate::comparisons::{tell_next, tell_open, tell_outside, tell_totals};
+use crate::comparisons::{tell_next, tell_outside, tell_totals, tell_uncertain};
 use crate::escaped::{Name, print_about};
 use crate::file_names::FileNames;
 use crate::first_bytes::tell_looks;
@@ -95,7 +95,7 @@ pub(crate) fn explain_open(rt: &HostRuntime, fault: &ToolError, asked: &Asked) {
         ToolError::TopUncertain { most, .. } => {
             tell_next(rt, *most, asked.records.layout.decimals, asked.memory);
         }
-        ToolError::ReportUncertain { open, .. } => tell_open(rt, *open, asked.memory),
+        ToolError::ReportUncertain { uncertain, .. } => tell_uncertain(rt, *uncertain, asked.memory),
         _ => {}
     }
 }

@@ -120,9 +120,10 @@ pub enum ToolError {
     /// Of the greatest keys only the first `certain` are known; each other weighs at most `most`.
     #[error("of the greatest keys only {certain} are certain")]
     TopUncertain { certain: u64, most: u64 },
-    /// Of the heavy keys `certain` are known, with their weights, and `open` more keys can be heavy.
+    /// Of the heavy keys `certain` are known, with their weights, and `uncertain` more keys can be
+    /// heavy.
     #[error("of the heavy keys only {certain} are certain")]
-    ReportUncertain { certain: u64, open: u64 },
+    ReportUncertain { certain: u64, uncertain: u64 },
 }
 
 impl ToolError {

@@ -1,4 +1,5 @@
 pub mod FilePasses
+pub mod OnceReports
 pub mod ReportFiles
 pub mod TableFiles
 pub mod SummaryFiles

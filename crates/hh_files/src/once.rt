@@ -35,11 +35,11 @@ fn sure_keys(
     ensures refused { IfErr result (TallyRefused p q tally.now) }
 {
     let contenders = tally.contenders(alloc, p, q)?;
-    let open = tally.unsure(alloc, &contenders)?.len();
-    if open > 0 {
+    let uncertain = tally.unsure(alloc, &contenders)?.len();
+    if uncertain > 0 {
         return Err(ToolError::ReportUncertain {
-            certain: (contenders.len() - open) as u64,
-            open: open as u64,
+            certain: (contenders.len() - uncertain) as u64,
+            uncertain: uncertain as u64,
         });
     }
     let weights = tally.weights(alloc, &contenders, &[])?;
