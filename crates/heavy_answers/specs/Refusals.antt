@@ -31,7 +31,7 @@ use Rattle.heavy_arguments.specs.declared.verbs.Pass.{Pass}
 use Rattle.heavy_arguments.specs.declared.verbs.Pass.TheVariants as pass
 use Rattle.heavy_arguments.specs.declared.verbs.Verb.{Verb}
 use Rattle.heavy_arguments.specs.declared.verbs.Verb.TheVariants as verb
-use Rattle.heavy_requests.specs.Request.{first_file}
+use Rattle.heavy_requests.specs.Request.{bytes_of, first_file}
 use Rattle.heavy_requests.specs.declared.request.Asked.{Asked}
 use Rattle.heavy_answers.specs.Answers.{Answers, IsFileOf, OfRecords, columns_of, refuses_contradictions}
 use Rattle.heavy_answers.specs.Columns.{bytes_in}
@@ -116,10 +116,6 @@ PassFails gives opens unopened pass asked refuses e =
     IsFileRefused gives pass asked e
     ⊎ ((file : List ℕ) × IsFileOf gives pass asked file × (SourcesRefused unopened asked e
     ⊎ RecordsFail opens asked (λ known. FailsInOnePass pass asked file refuses known e)))
-
--- the bytes of a number of megabytes, or the greatest number
-abbrev pub bytes_of : ℕ → ℕ
-bytes_of memory = min (memory * 1000000) (2 ^ 64 - 1)
 
 -- the greatest keys are refused: the inputs can't be opened, the workers are refused before anything is read, or behind them
 -- an input can't be kept; or the library refuses them

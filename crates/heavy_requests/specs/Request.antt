@@ -1,6 +1,6 @@
 -- What a command line asks for, by what the program's own command line finds in it. What an option is called, and its
 -- default, stand in the table of commands.
-use Rattle.std.specs.Prelude.{ℕ, ◌≡◌, ◌≢◌, ◌⊎◌, ◌-◌, ◌^◌, ◌==◌, ◌&&◌, ◌||◌, Bool, is_none, is_some, ⊤, true, false, not, List, [], Option, Some, None, bytes_eq, codes, length, map, drop, option_map, slice_index_or, unwrap_or, if◌then◌else◌}
+use Rattle.std.specs.Prelude.{ℕ, ◌≡◌, ◌≢◌, ◌⊎◌, ◌-◌, ◌*◌, ◌^◌, ◌==◌, ◌&&◌, ◌||◌, Bool, is_none, is_some, ⊤, true, false, not, List, [], Option, Some, None, bytes_eq, codes, length, map, min, drop, option_map, slice_index_or, unwrap_or, if◌then◌else◌}
 use Rattle.std.specs.List.{flat_map, list_any, slice_split}
 use Rattle.clap.specs.Words.{App, IsAmong, Text, fault_of, first_value, kind_of, matched_of, one_text, raw_values, rows_of, subcommand_of, takes}
 use Rattle.clap.specs.declared.error.kind.ErrorKind.{ErrorKind}
@@ -160,6 +160,10 @@ pub record AsksFor (name : Text) (found : Found) (asked : Asked) : Type 0 where
   pub records : AreRecordWords found asked.records
   pub progress : IsFlag found PROGRESS.name.now asked.tells_progress
   pub explained : IsFlag found EXPLAIN.name.now asked.explains
+
+-- the bytes of a number of megabytes, or the greatest number
+abbrev pub bytes_of : ℕ → ℕ
+bytes_of memory = min (memory * 1000000) (2 ^ 64 - 1)
 
 -- the name of the first saved file, or none where there is no file
 abbrev pub first_file : Asked → List ℕ

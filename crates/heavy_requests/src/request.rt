@@ -7,7 +7,7 @@ ghost use Rattle.heavy_host.specs.Words.{word_of};
 ghost use Rattle.heavy_requests.specs.Request.{AreOptions, AreRecordWords, AreRowOptions};
 ghost use Rattle.heavy_requests.specs.Request.{AsksFor, GivesShare, IsAskedBy, IsAskedFrom};
 ghost use Rattle.heavy_requests.specs.Request.{IsFormat, IsOutput, MayRefuse, MayRefuseFrom};
-ghost use Rattle.heavy_requests.specs.Request.{NamesTree, all_columns, all_words, are_plain};
+ghost use Rattle.heavy_requests.specs.Request.{NamesTree, all_columns, all_words, are_plain, bytes_of};
 ghost use Rattle.heavy_requests.specs.Request.{asks_plan, between_commas, columns_in, first_file};
 ghost use Rattle.heavy_requests.specs.Request.{word_given};
 
@@ -27,7 +27,7 @@ use std::alloc::{AllocError, Global};
 use std::io::IsTerminal;
 
 /// How many bytes a megabyte has.
-pub const MEGABYTE: u64 = 1_000_000;
+const MEGABYTE: u64 = 1_000_000;
 
 /// What a command line asks for. Of an option that the command doesn't have it says what it says
 /// where the option isn't given.
@@ -88,6 +88,13 @@ impl Asked {
         } else {
             0
         }
+    }
+
+    /// Gives how many bytes the megabytes of memory are, or the greatest number.
+    pub fn memory_bytes(&self) -> u64
+        ensures { result ≡ bytes_of self.now.memory }
+    {
+        self.memory.saturating_mul(MEGABYTE)
     }
 
     /// Gives the passes in which workers read the files of records, by the command line alone.
