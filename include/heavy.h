@@ -61,7 +61,8 @@ extern "C" {
 #define HEAVY_MEMORY 4u
 #define HEAVY_TOO_SMALL 5u
 
-/* Kinds of fault. Those with a number and a cause say so; else both are 0. No call gives HEAVY_BAD_METHOD today. */
+/* Kinds of fault. Those with a number and a cause say so; else both are 0. No call gives HEAVY_BAD_METHOD or
+   HEAVY_REPORT_UNCERTAIN today. */
 #define HEAVY_BAD_DEPTH 1u
 #define HEAVY_BAD_K 2u
 #define HEAVY_BAD_WIDTH 4u
@@ -84,6 +85,7 @@ extern "C" {
 #define HEAVY_BAD_LAYOUT 26u
 #define HEAVY_TOP_UNCERTAIN 27u /* number of the greatest keys that are certain */
 #define HEAVY_NO_VALUE 28u
+#define HEAVY_REPORT_UNCERTAIN 29u
 
 #define HEAVY_RECORD_FIELD_COUNT 1u
 #define HEAVY_RECORD_EMPTY_KEY 2u

@@ -226,6 +226,28 @@ class CommandLine(programs.Checks):
         self.refuses([*few, "2"], told % 1, 3, b"".join(ones) + b"big,2\n")
         self.expect(["top", "2"], (0, b"big,2\nk000000,1\n", b""), b"".join(ones) + b"big,2\n")
 
+    def test_report_once(self) -> None:
+        """A report by one reading has the rows that any has. Where a key that can be heavy comes after counters were lowered, it is
+        refused, with how many keys are certain; a key that comes before, and stays, is certain. More memory lowers later."""
+        few = b"".join(b"k%06d\n" % number for number in range(3_000))
+        told = "of the heavy keys only %d are certain\n  %s can be heavy: a --memory above %s leaves fewer, and none are left without --once"
+        self.expect(["report", "--once", "--k", "2"], (0, b"a,6\n", b""))
+        self.expect(["report", "--once", "--k", "9", "--threshold", "1/4", "--share"], (0, b"a,6,54.5454\nb,3,27.2727\n", b""))
+        self.expect(["report", "--once", "--pieces", "2", "--workers", "1", "--k", "2"], (0, b"a,6\n", b""))
+        self.expect(["report", "--once", "--memory", "0", "--k", "2"], (0, b"early,3000\n", b""), b"early,3000\n" + few)
+        late = b"early,9000\n" + few + b"late,9000\nlater,8000\n"
+        for memory in "01":
+            rows = b"early,9000\nlate,9000\nlater,8000\n"
+            words = ["report", "--explain", "--once", "--memory", memory, "--k", "9"]
+            if memory == "0":
+                self.refuses(words, told % (1, "2 more keys", 0), 3, late)
+            else:
+                self.expect(words, (0, rows, b""), late)
+        self.refuses(["report", "--explain", "--once", "--memory", "0", "--k", "2"], told % (0, "1 more key", 0), 3, few + b"late,9000\n")
+        self.refuses(["report", "--once", "--k", "0", "missing"], "file 1: could not be read", 1)
+        self.refuses(["report", "--once", "--k", "0"], "k must be 1 to 65535", 2)
+        self.refuses(["report", "--once"], "record 2: zero weight", 3, b"a,5\nb,0\n")
+
     def test_letters(self) -> None:
         """Options by their letters, with the value in the same word or in the next, and several in one word."""
         for words in (["-k", "2"], ["-k2"], ["-k=2"]):

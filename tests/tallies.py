@@ -202,6 +202,22 @@ class Tallies(programs.Checks):
             self.check(f"again by {again}", here == there, (words, [text[:200] for text in texts], here, there))
         print(f"seed {seed}: {cases} cases of reports, {refused} refused, {printed} with rows, {differed} differ")
 
+    def test_reports_once(self) -> None:
+        """A report by one reading has the rows of any, or is refused where these can't be certain."""
+        cases, seed = chosen()
+        printed, open_ones = 0, 0
+        for random, again in drawn_cases(cases, seed):
+            texts = [drawn_text(random) for _ in range(random.choice([1, 1, 2]))]
+            words = ["--k", random.choice(["1", "3", "20", "100", "5000"]), *random.choice(LAYOUTS)]
+            paths = self.files(texts)
+            once = self.heavy("report", *words, "--once", "--memory", random.choice(["0", "1", "9"]), *paths)
+            again_read = self.heavy("report", *words, "--workers", "1", *paths)
+            is_open = once[0] == 3 and once[1] == b"" and once[2].startswith(b"heavy: of the heavy keys only ")
+            self.check(f"again by {again}", once == again_read or is_open and again_read[0] == 0, (words, [text[:200] for text in texts], once))
+            printed += once[1] != b""
+            open_ones += is_open
+        print(f"seed {seed}: {cases} cases of reports by one reading, {printed} with rows, {open_ones} left open")
+
     def test_summaries(self) -> None:
         """What workers summarise bounds each weight, and is merged, asked, listed and confirmed as any."""
         cases, seed = chosen()

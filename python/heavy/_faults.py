@@ -36,6 +36,7 @@ class Kind(enum.IntEnum):
     BAD_LAYOUT = 26
     TOP_UNCERTAIN = 27
     NO_VALUE = 28
+    REPORT_UNCERTAIN = 29
 
 
 class Cause(enum.Enum):

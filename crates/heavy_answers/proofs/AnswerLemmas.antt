@@ -4,7 +4,7 @@ use Rattle.std.specs.Prelude.{⊤}
 use Rattle.hh_records.specs.Streams.{Known}
 use Rattle.hh_records.specs.declared.layout.Layout.{Layout}
 use Rattle.heavy_requests.specs.declared.request.RecordWords.{RecordWords}
-use Rattle.heavy_answers.specs.Answers.{ByPlan, OfRecords}
+use Rattle.heavy_answers.specs.Answers.{IfOnce, OfRecords}
 use Rattle.heavy_answers.specs.Inputs.{AreRecords}
 
 -- what follows from what holds of a success
@@ -26,13 +26,13 @@ Holds false = ⊥
 not_both : (b : Bool) → b ≡ true → b ≡ false → ⊥
 not_both b holds fails = subst Holds (sym holds ∙ fails) tt
 
--- what holds by the plan that was asked for
-pub planned : {P T : Type 0} (by_plan : Bool) → by_plan ≡ true → P → ByPlan by_plan P T
-planned by_plan asked holds = record { planned = λ _. holds; tallied = λ fails. absurd (not_both by_plan asked fails) }
+-- what holds of one reading
+pub read_once : {P T : Type 0} (once : Bool) → once ≡ true → P → IfOnce once P T
+read_once once reads holds = record { once = λ _. holds; again = λ fails. absurd (not_both once reads fails) }
 
--- what holds by tallies
-pub tallied : {P T : Type 0} (by_plan : Bool) → by_plan ≡ false → T → ByPlan by_plan P T
-tallied by_plan asked holds = record { planned = λ plan. absurd (not_both by_plan plan asked); tallied = λ _. holds }
+-- what holds of several
+pub read_again : {P T : Type 0} (once : Bool) → once ≡ false → T → IfOnce once P T
+read_again once reads holds = record { once = λ is. absurd (not_both once is reads); again = λ _. holds }
 
 -- what is made of records is of those that the words name
 pub of_records : (opens : Bool → List ℕ → Option (List ℕ) → Type 0) (words : RecordWords) (Makes : Layout → Known → Type 0) (layout : Layout)

@@ -1,6 +1,6 @@
 -- What answers a request, by the bytes that are given of the files that it names.
 use Rattle.std.specs.Io.KnownBytes.{Appends}
-use Rattle.std.specs.Prelude.{ℕ, ◌≡◌, ◌⊎◌, ⊤, Bool, true, false, not, List, Option, Some, None, Ok, map}
+use Rattle.std.specs.Prelude.{ℕ, ◌≡◌, ◌⊎◌, ◌||◌, ⊤, Bool, true, false, not, List, Option, Some, None, Ok, map}
 use Rattle.hh_summaries.specs.Counters.{sketch_of}
 use Rattle.hh_countmin.specs.Family.{drawn_family}
 use Rattle.hh_countmin.specs.Table.{table_of}
@@ -82,15 +82,15 @@ MakesInOnePass pass.Condense asked file refuses outside layout known bytes = Con
 MakesInOnePass pass.Confirm asked file refuses outside layout known bytes =
     Confirms file asked.options.threshold asked.rows refuses outside known bytes
 
--- where a plan was asked for the first holds, and else, by tallies, the second
-pub record ByPlan (by_plan : Bool) (Planned Tallied : Type 0) : Type 0 where
-  pub planned : by_plan ≡ true → Planned
-  pub tallied : by_plan ≡ false → Tallied
+-- where records are read once the first holds, and else the second
+pub record IfOnce (once : Bool) (Once Again : Type 0) : Type 0 where
+  pub once : once ≡ true → Once
+  pub again : once ≡ false → Again
 
--- these are the rows of the report of the records: by the plan that was asked for, or by tallies
+-- these are the rows of the report of the records: they are read once, as is asked for or for a plan, or they may be read again
 abbrev pub PrintsReport : Asked → Known → List ℕ → Type 0
 PrintsReport asked known bytes =
-    AreOptions asked.options × ByPlan asked.by_plan (PrintsRows asked.rows asked.options known bytes)
+    AreOptions asked.options × IfOnce (asked.once || asked.by_plan) (PrintsRows asked.rows asked.options known bytes)
     (PrintsFileRows asked.rows asked.options known bytes)
 
 -- this holds of the first saved file

@@ -22,6 +22,7 @@ use Rattle.hh_commands.specs.declared.commands.summarise.Method.{Method}
 use Rattle.hh_commands.specs.declared.compared.Outside.{Outside}
 use Rattle.hh_files.specs.Report.{StartRefused, bad_option}
 use Rattle.hh_files.specs.FilePasses.{CondenseFilesRefused, ConfirmFilesRefused}
+use Rattle.hh_files.specs.OnceReports.{OnceRefused}
 use Rattle.hh_files.specs.SummaryFiles.{bad_summary_of_files}
 use Rattle.hh_files.specs.TableFiles.{bad_table_of_files}
 use Rattle.hh_files.specs.TopFiles.{TopFilesRefused}
@@ -30,7 +31,7 @@ use Rattle.heavy_arguments.specs.declared.verbs.Pass.{Pass}
 use Rattle.heavy_arguments.specs.declared.verbs.Pass.TheVariants as pass
 use Rattle.heavy_arguments.specs.declared.verbs.Verb.{Verb}
 use Rattle.heavy_arguments.specs.declared.verbs.Verb.TheVariants as verb
-use Rattle.heavy_requests.specs.Request.{first_file}
+use Rattle.heavy_requests.specs.Request.{bytes_of, first_file}
 use Rattle.heavy_requests.specs.declared.request.Asked.{Asked}
 use Rattle.heavy_answers.specs.Answers.{Answers, IsFileOf, OfRecords, columns_of, refuses_contradictions}
 use Rattle.heavy_answers.specs.Columns.{bytes_in}
@@ -116,10 +117,6 @@ PassFails gives opens unopened pass asked refuses e =
     ⊎ ((file : List ℕ) × IsFileOf gives pass asked file × (SourcesRefused unopened asked e
     ⊎ RecordsFail opens asked (λ known. FailsInOnePass pass asked file refuses known e)))
 
--- the bytes of a number of megabytes, or the greatest number
-abbrev pub bytes_of : ℕ → ℕ
-bytes_of memory = min (memory * 1000000) (2 ^ 64 - 1)
-
 -- the greatest keys are refused: the inputs can't be opened, the workers are refused before anything is read, or behind them
 -- an input can't be kept; or the library refuses them
 abbrev pub TopFails : (Bool → List ℕ → Option (List ℕ) → Type 0) → (List ℕ → ℕ → ToolError → Type 0) → Asked → ToolError → Type 0
@@ -154,10 +151,15 @@ abbrev pub BeginRefused : (List ℕ → ℕ → ToolError → Type 0) → Asked 
 BeginRefused unopened asked e =
     OpenRefused unopened asked e ⊎ (bad_option asked.options ≡ Some e) ⊎ ((bad_option asked.options ≡ None) × IsUnkept e)
 
+-- the library refuses a report: of records that are read once, as was asked for, or of others
+abbrev pub ReportRefused : Bool → Asked → Known → ToolError → Type 0
+ReportRefused true asked known e = OnceRefused asked.options (bytes_of asked.memory) known e
+ReportRefused false asked known e = StartRefused asked.options known e
+
 -- the report is refused: it can't begin, or the library refuses it
 abbrev pub ReportFails : (Bool → List ℕ → Option (List ℕ) → Type 0) → (List ℕ → ℕ → ToolError → Type 0) → Asked → ToolError → Type 0
 ReportFails opens unopened asked e =
-    BeginRefused unopened asked e ⊎ OfRecords opens asked.records (λ _ known. StartRefused asked.options known e)
+    BeginRefused unopened asked e ⊎ OfRecords opens asked.records (λ _ known. ReportRefused asked.once asked known e)
 
 -- a command that does this is refused: by its options, by a file that can't be read, or as the library refuses what is asked for
 abbrev pub Fails : (List ℕ → Option (List ℕ) → Type 0) → (Bool → List ℕ → Option (List ℕ) → Type 0)

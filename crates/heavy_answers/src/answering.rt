@@ -1,11 +1,13 @@
 //! The calls of the libraries that answer what is asked for.
 
-ghost use Rattle.std.specs.Prelude.{◌≡◌, false, map, option_map, true, IfErr, IfOk, OnOk};
+ghost use Rattle.std.specs.Prelude.{◌≡◌, ◌⊎◌, false, map, option_map, true, IfErr, IfOk, OnOk};
 ghost use Rattle.hh_commands.specs.Files.{Refuses};
 ghost use Rattle.hh_commands.specs.Merge.{merged_files};
 ghost use Rattle.heavy_answers.specs.Answers.{Answers, IsAnswered, MakesMerge, OfRecords};
 ghost use Rattle.heavy_answers.specs.Answers.{PrintsReport, columns_of};
-ghost use Rattle.heavy_answers.specs.Refusals.{Fails, FilesFail, IsRefused, ReportFails, TopFails};
+ghost use Rattle.heavy_answers.specs.Refusals.{Fails, FilesFail, IsRefused, OpenRefused};
+ghost use Rattle.heavy_answers.specs.Refusals.{ReportFails, ReportRefused, TopFails};
+ghost use Rattle.hh_files.specs.Report.{AreOptions, PrintsRows};
 ghost use Rattle.hh_files.specs.TopFiles.{PrintsTop};
 
 use crate::columns::{BOUNDS, Names, VALUES, WEIGHTS, bytes_in, report_columns};
@@ -14,10 +16,10 @@ use crate::opening::{into_kept, open, open_records, saved_file};
 use crate::single_pass::in_one_pass;
 use heavy_arguments::{Pass, Verb};
 use heavy_host::read_files;
-use heavy_requests::{Asked, MEGABYTE};
+use heavy_requests::Asked;
 use hh_commands::{Comparison, ask_rows, describe_file, list_rows, merge_bytes};
 use hh_faults::ToolError;
-use hh_files::{TopOptions, check_options, report_files, report_rows, top_files};
+use hh_files::{TopOptions, check_options, report_files, report_once, report_rows, top_files};
 use hh_rows::{Sink, put};
 use hh_stream::in_range;
 use hh_workers::MAX_WORKERS;
@@ -61,7 +63,7 @@ fn top<T: Threads + Wait + Sync, H: Host>(
     let options = TopOptions {
         n: asked.greatest,
         workers: asked.options.workers,
-        memory: asked.memory.saturating_mul(MEGABYTE),
+        memory: asked.memory_bytes(),
     };
     let bytes = top_files(
         threads,
@@ -73,9 +75,33 @@ fn top<T: Threads + Wait + Sync, H: Host>(
     Ok(bytes)
 }
 
+/// Makes the rows of the report of the records that are `asked` for, which this thread reads once:
+/// if once is asked for by counters alone, and else by a plan, which keeps all records.
+fn report_in_turn<T: Threads + Wait + Sync, H: Host>(
+    threads: &T,
+    host: &H,
+    asked: &Asked,
+) -> Result<Vec<u8>, ToolError>
+    ensures made { IfOk result (λ bytes. OfRecords (H.opens host.now) asked.now.records
+        (λ _ known. AreOptions asked.now.options
+        × PrintsRows asked.now.rows asked.now.options known bytes.items)) }
+    ensures refused { IfErr result (λ fault. OpenRefused (H.unopened host.now) asked.now fault
+        ⊎ OfRecords (H.opens host.now) asked.now.records
+        (λ _ known. ReportRefused asked.now.once asked.now known fault)) }
+{
+    let records = open_records(host, asked)?;
+    let (alloc, options, rows) = (host.alloc(), &asked.options, &asked.rows);
+    if asked.once {
+        report_once(alloc, options, rows, asked.memory_bytes(), records)
+    } else {
+        report_rows(threads, alloc, options, rows, records)
+    }
+}
+
 /// Makes the rows of the report of the records that are `asked` for. All inputs are opened first,
 /// then the options are tested, and only then is anything read: a pipe, which can be read only
-/// once, is untouched when an option is refused. By a plan, one thread reads the inputs once.
+/// once, is untouched when an option is refused. By a plan, or if once is asked for, this thread
+/// reads the inputs once.
 fn report<T: Threads + Wait + Sync, H: Host>(
     threads: &T,
     host: &H,
@@ -87,9 +113,8 @@ fn report<T: Threads + Wait + Sync, H: Host>(
         (ReportFails (H.opens host.now) (H.unopened host.now) asked.now) }
 {
     let alloc = host.alloc();
-    if asked.by_plan {
-        let records = open_records(host, asked)?;
-        return report_rows(threads, alloc, &asked.options, &asked.rows, records);
+    if asked.once || asked.by_plan {
+        return report_in_turn(threads, host, asked);
     }
     let opened = open(host, asked)?;
     check_options(&asked.options)?;

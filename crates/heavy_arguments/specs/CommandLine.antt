@@ -12,7 +12,7 @@ use Rattle.heavy_arguments.specs.declared.options.Kind.{Kind}
 use Rattle.heavy_arguments.specs.declared.options.Kind.TheVariants as kind
 use Rattle.heavy_arguments.specs.Found.{number_of_kind}
 use Rattle.heavy_arguments.specs.declared.arguments.CommandWords.{CommandWords}
-use Rattle.heavy_arguments.specs.declared.arguments.TheConstants.{ASK_ARGUMENTS, COLUMNS, CONDENSE_ARGUMENTS, CONFIRM_ARGUMENTS, DESCRIBE_ARGUMENTS, LIST_ARGUMENTS, MEANS, MEMORY, MERGE_ARGUMENTS, REPORT_ARGUMENTS, SUMMARISE_ARGUMENTS, SUMMARY_WORKERS, TABLE_ARGUMENTS, TOP_ARGUMENTS, TOP_MEMORY, WORKERS}
+use Rattle.heavy_arguments.specs.declared.arguments.TheConstants.{ASK_ARGUMENTS, COLUMNS, CONDENSE_ARGUMENTS, CONFIRM_ARGUMENTS, DESCRIBE_ARGUMENTS, LIST_ARGUMENTS, MEANS, MEMORY, MERGE_ARGUMENTS, ONCE_MEMORY, REPORT_ARGUMENTS, SUMMARISE_ARGUMENTS, SUMMARY_WORKERS, TABLE_ARGUMENTS, TOP_ARGUMENTS, TOP_MEMORY, WORKERS}
 use Rattle.heavy_arguments.specs.declared.verbs.Verb.{Verb}
 use Rattle.heavy_arguments.specs.declared.verbs.Verb.TheVariants as verb
 use Rattle.heavy_arguments.specs.declared.verbs.Pass.TheVariants as pass
@@ -131,11 +131,13 @@ pub record IsProgram (app : App) : Type 0 where
   pub named : AreForms forms
   pub is : app ≡ program_app forms
 
--- how many workers read, and how many megabytes of a pipe are kept in memory, where that isn't given
+-- how many workers read, and how many megabytes of a pipe are kept in memory or, where it is read once, of counters, if that
+-- isn't given
 abbrev pub workers_of : Verb → ℕ
 workers_of (verb.Pass pass.Summarise) = number_of_kind SUMMARY_WORKERS.kind
 workers_of _ = number_of_kind WORKERS.kind
 
-abbrev pub memory_of : Verb → ℕ
-memory_of verb.Top = number_of_kind TOP_MEMORY.kind
-memory_of _ = number_of_kind MEMORY.kind
+abbrev pub memory_of : Verb → Bool → ℕ
+memory_of verb.Top once = number_of_kind TOP_MEMORY.kind
+memory_of _ true = number_of_kind ONCE_MEMORY.kind
+memory_of _ false = number_of_kind MEMORY.kind

@@ -105,7 +105,23 @@ pub const MEMORY: Named = Argument {
     name: "memory",
     letter: None,
     kind: Kind::Number(Some(64)),
-    help: "Megabytes of a pipe to keep in memory; a longer one goes to a file [default: 64]",
+    help: "Megabytes of a pipe to keep in memory; a longer one goes to a file [default: 64]. \
+        With --once, of counters [default: 4]",
+};
+
+pub const ONCE: Named = Argument {
+    name: "once",
+    letter: None,
+    kind: Kind::Flag,
+    help: "Read the input once and keep nothing of it; rows that are uncertain are refused",
+};
+
+/// The memory of a report by one reading, for counters.
+pub const ONCE_MEMORY: Named = Argument {
+    name: "memory",
+    letter: None,
+    kind: Kind::Number(Some(4)),
+    help: "Megabytes of counters [default: 4]",
 };
 
 /// The memory of `top`, for what a pipe gave and for counters.
@@ -322,7 +338,7 @@ pub(crate) struct CommandWords {
 }
 
 pub const REPORT_ARGUMENTS: &[Named] = &[
-    EXPLAIN, PROGRESS, K, THRESHOLD, TOP, SHARE, OUTPUT, NAMES, RECORDS,
+    EXPLAIN, PROGRESS, K, THRESHOLD, TOP, SHARE, OUTPUT, NAMES, ONCE, RECORDS,
 ];
 
 pub const TOP_ARGUMENTS: &[Named] = &[

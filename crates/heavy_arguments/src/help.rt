@@ -39,10 +39,12 @@ standard input. Files are read once or twice, and may be larger than memory. Sta
 input and pipes are kept in memory up to --memory megabytes, and else in a file without
 a name in the folder TMPDIR, or /tmp. With --pieces, --tree, --width, --depth or --seed
 all records are kept in memory, whatever --memory says, and the report is made by that
-plan; the rows are the same.",
+plan; the rows are the same. With --once one thread reads the input once, of any length,
+and keeps nothing of it. The rows are the same then, too, or the report is refused,
+where --memory megabytes of counters leave open what a key weighs that can be heavy.",
     end: "Exit status: 0 the report is whole; 1 input or a file could not be read or output
-not be written; 2 an option is refused; 3 a record is refused, or a header has no
-such column; 4 out of memory.
+not be written; 2 an option is refused; 3 a record is refused, a header has no such
+column, or with --once not all rows are certain; 4 out of memory.
 
 Example:
     $ printf 'a,5\\nb,3\\nc,2\\na,1\\n' | heavy report --k 9 --threshold 1/4

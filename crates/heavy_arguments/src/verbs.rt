@@ -5,7 +5,7 @@ ghost use Rattle.clap.specs.Words.{found_of};
 ghost use Rattle.heavy_arguments.specs.CommandLine.{memory_of, name_of, workers_of};
 ghost use Rattle.heavy_arguments.specs.Found.{IsNumber};
 
-use crate::arguments::{MEMORY, SUMMARY_WORKERS, TOP_MEMORY, WORKERS};
+use crate::arguments::{MEMORY, ONCE_MEMORY, SUMMARY_WORKERS, TOP_MEMORY, WORKERS};
 use clap::ArgMatches;
 
 /// What a command does that reads its records once.
@@ -65,11 +65,12 @@ impl Verb {
     }
 
     /// Gives the passes in which `workers` workers read the files of records: 0 if they read none,
-    /// as they don't for a report `by_plan`. A report needs two, or one if its keys are few, and so
-    /// do the greatest keys. Where their counters grow they need a third, which is not counted.
-    pub fn passes(self, by_plan: bool, workers: u64) -> u64 {
+    /// as they don't for a report by `one_reading`. Another needs two, or one if its keys are few,
+    /// and so do the greatest keys. Where their counters grow they need a third, which is not
+    /// counted.
+    pub fn passes(self, one_reading: bool, workers: u64) -> u64 {
         match self {
-            Verb::Report if by_plan => 0,
+            Verb::Report if one_reading => 0,
             Verb::Report | Verb::Top => 2,
             Verb::Pass(Pass::Summarise) => u64::from(workers != 1),
             Verb::Pass(_) => 1,
@@ -88,15 +89,16 @@ impl Verb {
         }
     }
 
-    /// Gives how many megabytes of a pipe are kept in memory: the number that was given, or else
-    /// the default.
-    pub fn memory(self, found: &ArgMatches) -> u64
+    /// Gives how many megabytes of a pipe are kept in memory or, where it is read `once`, of
+    /// counters: the number that was given, or else the default.
+    pub fn memory(self, once: bool, found: &ArgMatches) -> u64
         ensures { IsNumber (found_of found.now) MEMORY.name.now (2 ^ 64)
-            (memory_of self) result }
+            (memory_of self once) result }
     {
-        match self {
-            Verb::Top => TOP_MEMORY.number(found),
-            _ => MEMORY.number(found),
+        match (self, once) {
+            (Verb::Top, _) => TOP_MEMORY.number(found),
+            (_, true) => ONCE_MEMORY.number(found),
+            (_, false) => MEMORY.number(found),
         }
     }
 }

@@ -42,6 +42,16 @@ pub(crate) fn tell_next(rt: &HostRuntime, most: u64, decimals: u8, memory: u64) 
     );
 }
 
+/// Prints how many more keys can be heavy than those that are certain, where counters had `memory`
+/// megabytes.
+pub(crate) fn tell_uncertain(rt: &HostRuntime, uncertain: u64, memory: u64) {
+    let keys = if uncertain == 1 { "key" } else { "keys" };
+    let _ = eprintln!(rt;
+        "  {uncertain} more {keys} can be heavy: a --memory above {memory} leaves fewer, and none \
+        are left without --once"
+    );
+}
+
 /// Prints two totals that differ, with `decimals` digits after the point.
 pub(crate) fn tell_totals(rt: &HostRuntime, name: &[u8], totals: Totals, decimals: u8) {
     let name = Name(name);

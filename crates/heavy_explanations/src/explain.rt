@@ -3,7 +3,7 @@
 
 use crate::bad_records::tell_record;
 use crate::columns::tell_columns;
-use crate::comparisons::{tell_next, tell_outside, tell_totals};
+use crate::comparisons::{tell_next, tell_outside, tell_totals, tell_uncertain};
 use crate::escaped::{Name, print_about};
 use crate::file_names::FileNames;
 use crate::first_bytes::tell_looks;
@@ -89,11 +89,14 @@ pub(crate) fn explain_comparison(
     }
 }
 
-/// Prints more about the `fault` of the greatest keys that were `asked` for, where counters leave
-/// them open.
-pub(crate) fn explain_top(rt: &HostRuntime, fault: &ToolError, asked: &Asked) {
-    if let ToolError::TopUncertain { most, .. } = fault {
-        tell_next(rt, *most, asked.records.layout.decimals, asked.memory);
+/// Prints more about the `fault` of keys that were `asked` for, where counters leave some open.
+pub(crate) fn explain_open(rt: &HostRuntime, fault: &ToolError, asked: &Asked) {
+    match fault {
+        ToolError::TopUncertain { most, .. } => {
+            tell_next(rt, *most, asked.records.layout.decimals, asked.memory);
+        }
+        ToolError::ReportUncertain { uncertain, .. } => tell_uncertain(rt, *uncertain, asked.memory),
+        _ => {}
     }
 }
 

@@ -9,7 +9,7 @@ ghost use Rattle.hh_faults.specs.Status.{status_of};
 use crate::comparisons::tell_outside;
 use crate::escaped::Lines;
 use crate::explain::{
-    explain_comparison, explain_file, explain_records, explain_top, names_records,
+    explain_comparison, explain_file, explain_open, explain_records, names_records,
 };
 use crate::file_names::FileNames;
 use crate::notes::{
@@ -49,7 +49,7 @@ fn explain(inputs: Inputs<'_>, fault: &ToolError, asked: &Asked, compared: &Comp
     }
     explain_file(rt, names, fault, &notes.unread);
     explain_comparison(rt, names.name(1), fault, compared, records.layout.decimals);
-    explain_top(rt, fault, asked);
+    explain_open(rt, fault, asked);
     explain_records(texts_of(inputs, asked), fault);
 }
 

@@ -108,6 +108,7 @@ refusal_status tool.BadColumn = (λ h. omega (arith, h), λ h. omega (arith, h))
 refusal_status tool.NoColumn = (λ h. omega (arith, h), λ h. omega (arith, h))
 refusal_status tool.WeightOutside = (λ h. omega (arith, h), λ h. omega (arith, h))
 refusal_status (tool.TopUncertain n m) = (λ h. omega (arith, h), λ h. omega (arith, h))
+refusal_status (tool.ReportUncertain n m) = (λ h. omega (arith, h), λ h. omega (arith, h))
 
 -- a change that is refused leaves the value as it was, and tells the refusal
 pub refused_change : (P : Saved → List (Option Saved) → Type 0) (Q : Saved → ToolError → Type 0) (held new : Option Saved)

@@ -39,6 +39,7 @@ kind_of tool.BadColumn = 23
 kind_of tool.NoColumn = 24
 kind_of tool.WeightOutside = 25
 kind_of (tool.TopUncertain n m) = 27
+kind_of (tool.ReportUncertain n m) = 29
 
 abbrev pub record_cause : BadRecordCause → ℕ
 record_cause bad.FieldCount = 1

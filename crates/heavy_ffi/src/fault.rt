@@ -127,6 +127,7 @@ fn kind_of(fault: &ToolError) -> u32
         ToolError::NoColumn => 24,
         ToolError::WeightOutside => 25,
         ToolError::TopUncertain { .. } => 27,
+        ToolError::ReportUncertain { .. } => 29,
     }
 }
 

@@ -10,7 +10,7 @@ use crate::notes::InputNotes;
 use crate::open_file::OpenFile;
 use heavy_host::{Named, open_input};
 use heavy_progress::{Form, ProgressReader, SharedProgress, Tail};
-use heavy_requests::{Asked, MEGABYTE};
+use heavy_requests::Asked;
 use hh_faults::ToolError;
 use std::fs;
 
@@ -64,7 +64,7 @@ impl<'a> Inputs<'a> {
                 delimiter: asked.records.parting_byte().unwrap_or(b','),
                 has_header: asked.records.layout.has_header,
             },
-            most_kept: asked.memory.saturating_mul(MEGABYTE),
+            most_kept: asked.memory_bytes(),
         }
     }
 

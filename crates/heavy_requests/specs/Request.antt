@@ -1,6 +1,6 @@
 -- What a command line asks for, by what the program's own command line finds in it. What an option is called, and its
 -- default, stand in the table of commands.
-use Rattle.std.specs.Prelude.{ℕ, ◌≡◌, ◌≢◌, ◌⊎◌, ◌-◌, ◌^◌, ◌==◌, ◌&&◌, ◌||◌, Bool, is_none, is_some, ⊤, true, false, not, List, [], Option, Some, None, bytes_eq, codes, length, map, drop, option_map, slice_index_or, unwrap_or, if◌then◌else◌}
+use Rattle.std.specs.Prelude.{ℕ, ◌≡◌, ◌≢◌, ◌⊎◌, ◌-◌, ◌*◌, ◌^◌, ◌==◌, ◌&&◌, ◌||◌, Bool, is_none, is_some, ⊤, true, false, not, List, [], Option, Some, None, bytes_eq, codes, length, map, min, drop, option_map, slice_index_or, unwrap_or, if◌then◌else◌}
 use Rattle.std.specs.List.{flat_map, list_any, slice_split}
 use Rattle.clap.specs.Words.{App, IsAmong, Text, fault_of, first_value, kind_of, matched_of, one_text, raw_values, rows_of, subcommand_of, takes}
 use Rattle.clap.specs.declared.error.kind.ErrorKind.{ErrorKind}
@@ -19,7 +19,7 @@ use Rattle.hh_rows.specs.declared.output.Form.TheVariants as form
 use Rattle.hh_rows.specs.declared.output.Output.{Output}
 use Rattle.heavy_arguments.specs.CommandLine.{IsProgram, memory_of, name_of, workers_of}
 use Rattle.heavy_arguments.specs.Found.{IsFlag, IsNumber, IsNumberGiven, number_of_kind, text_found}
-use Rattle.heavy_arguments.specs.declared.arguments.TheConstants.{ALLOW_ZERO, BAD_AS, DECIMALS, DELIMITER, DEPTH, EXPLAIN, GREATEST, HEADER, JSON, K, KEY, KEYS, LINES, MEMORY, METHOD, NAMES, NO_QUOTES, OUTPUT, PIECES, PREFIX, PROGRESS, RECORDS, SAVED_FILES, SEED, SHARE, SQUEEZE, THRESHOLD, TOP, TREE, UNTIL, WEIGHT, WIDTH, WORKERS}
+use Rattle.heavy_arguments.specs.declared.arguments.TheConstants.{ALLOW_ZERO, BAD_AS, DECIMALS, DELIMITER, DEPTH, EXPLAIN, GREATEST, HEADER, JSON, K, KEY, KEYS, LINES, MEMORY, METHOD, NAMES, NO_QUOTES, ONCE, OUTPUT, PIECES, PREFIX, PROGRESS, RECORDS, SAVED_FILES, SEED, SHARE, SQUEEZE, THRESHOLD, TOP, TREE, UNTIL, WEIGHT, WIDTH, WORKERS}
 use Rattle.heavy_arguments.specs.declared.options.Argument.{Argument}
 use Rattle.heavy_arguments.specs.declared.verbs.Verb.{Verb}
 use Rattle.heavy_host.specs.Words.{AreAllWords, word_of}
@@ -151,7 +151,8 @@ pub record AsksFor (name : Text) (found : Found) (asked : Asked) : Type 0 where
   pub plan : asked.by_plan ≡ asks_plan found
   pub method : asked.method.items ≡ word_of (text_found (λ t. t.now) found METHOD)
   pub greatest : IsNumberOf (λ t. t.now) found GREATEST asked.greatest
-  pub memory : IsNumber found MEMORY.name.now (2 ^ 64) (memory_of asked.verb) asked.memory
+  pub once : IsFlag found ONCE.name.now asked.once
+  pub memory : IsNumber found MEMORY.name.now (2 ^ 64) (memory_of asked.verb asked.once) asked.memory
   pub rows : AreRowOptions found asked.rows
   pub output : IsOutput found asked.output
   pub files : map (λ w. w.items) asked.files.items ≡ all_words found SAVED_FILES.name.now
@@ -159,6 +160,10 @@ pub record AsksFor (name : Text) (found : Found) (asked : Asked) : Type 0 where
   pub records : AreRecordWords found asked.records
   pub progress : IsFlag found PROGRESS.name.now asked.tells_progress
   pub explained : IsFlag found EXPLAIN.name.now asked.explains
+
+-- the bytes of a number of megabytes, or the greatest number
+abbrev pub bytes_of : ℕ → ℕ
+bytes_of memory = min (memory * 1000000) (2 ^ 64 - 1)
 
 -- the name of the first saved file, or none where there is no file
 abbrev pub first_file : Asked → List ℕ

@@ -6,5 +6,5 @@ mod request;
 mod usage_report;
 
 pub use fields::split_fields;
-pub use request::{Asked, MEGABYTE, RecordWords, UsageError, read_request};
+pub use request::{Asked, RecordWords, UsageError, read_request};
 pub use usage_report::UsageReport;

@@ -7,7 +7,7 @@ ghost use Rattle.heavy_host.specs.Words.{word_of};
 ghost use Rattle.heavy_requests.specs.Request.{AreOptions, AreRecordWords, AreRowOptions};
 ghost use Rattle.heavy_requests.specs.Request.{AsksFor, GivesShare, IsAskedBy, IsAskedFrom};
 ghost use Rattle.heavy_requests.specs.Request.{IsFormat, IsOutput, MayRefuse, MayRefuseFrom};
-ghost use Rattle.heavy_requests.specs.Request.{NamesTree, all_columns, all_words, are_plain};
+ghost use Rattle.heavy_requests.specs.Request.{NamesTree, all_columns, all_words, are_plain, bytes_of};
 ghost use Rattle.heavy_requests.specs.Request.{asks_plan, between_commas, columns_in, first_file};
 ghost use Rattle.heavy_requests.specs.Request.{word_given};
 
@@ -16,8 +16,8 @@ use crate::usage_report::{UsageReport, usage_report_of};
 use clap::ArgMatches;
 use heavy_arguments::arguments::{
     ALLOW_ZERO, BAD_AS, DECIMALS, DELIMITER, DEPTH, EXPLAIN, GREATEST, HEADER, JSON, K, KEY, KEYS,
-    LINES, METHOD, NAMES, NO_QUOTES, OUTPUT, PIECES, PREFIX, PROGRESS, RECORDS, SAVED_FILES, SEED,
-    SHARE, SQUEEZE, THRESHOLD, TOP, TREE, UNTIL, WEIGHT, WIDTH,
+    LINES, METHOD, NAMES, NO_QUOTES, ONCE, OUTPUT, PIECES, PREFIX, PROGRESS, RECORDS, SAVED_FILES,
+    SEED, SHARE, SQUEEZE, THRESHOLD, TOP, TREE, UNTIL, WEIGHT, WIDTH,
 };
 use heavy_arguments::{Named, Verb, command_line};
 use heavy_host::{WordSource, bytes_of, read_words, texts_of};
@@ -27,7 +27,7 @@ use std::alloc::{AllocError, Global};
 use std::io::IsTerminal;
 
 /// How many bytes a megabyte has.
-pub const MEGABYTE: u64 = 1_000_000;
+const MEGABYTE: u64 = 1_000_000;
 
 /// What a command line asks for. Of an option that the command doesn't have it says what it says
 /// where the option isn't given.
@@ -38,12 +38,15 @@ pub struct Asked {
     pub options: ReportOptions,
     /// Whether an option of the plan is given.
     pub by_plan: bool,
+    /// Whether a report is made by one reading, of which nothing is kept.
+    pub once: bool,
     /// How a summary is made.
     pub method: Vec<u8>,
     /// How many of the greatest keys are printed.
     pub greatest: u64,
     /// The most megabytes of a pipe that are kept in memory, where it is read twice, and of
-    /// counters that grow. A pipe that gives more is kept in a temporary file.
+    /// counters that grow, or that a report by one reading has. A pipe that gives more is kept in a
+    /// temporary file.
     pub memory: u64,
     /// Which rows are printed.
     pub rows: RowOptions,
@@ -87,9 +90,16 @@ impl Asked {
         }
     }
 
+    /// Gives how many bytes the megabytes of memory are, or the greatest number.
+    pub fn memory_bytes(&self) -> u64
+        ensures { result ≡ bytes_of self.now.memory }
+    {
+        self.memory.saturating_mul(MEGABYTE)
+    }
+
     /// Gives the passes in which workers read the files of records, by the command line alone.
     pub fn passes(&self) -> u64 {
-        self.verb.passes(self.by_plan, self.options.workers)
+        self.verb.passes(self.once || self.by_plan, self.options.workers)
     }
 }
 
@@ -356,13 +366,15 @@ fn asked_of(alloc: Global, name: &str, found: &ArgMatches) -> Result<Asked, Allo
     ensures { IfOk result (AsksFor name.now (found_of found.now)) }
 {
     let verb = Verb::of(name);
+    let once = ONCE.is_given(found);
     Ok(Asked {
         verb,
         options: options_of(alloc, verb, found)?,
         by_plan: asks_plan(found),
+        once,
         method: word(alloc, found, METHOD)?,
         greatest: GREATEST.number(found),
-        memory: verb.memory(found),
+        memory: verb.memory(once, found),
         rows: rows_of(found),
         output: output_of(found),
         files: words(alloc, found, SAVED_FILES.name)?,

@@ -29,3 +29,4 @@ status_of tool.BadColumn = 2
 status_of tool.NoColumn = 3
 status_of tool.WeightOutside = 3
 status_of (tool.TopUncertain n m) = 3
+status_of (tool.ReportUncertain n m) = 3

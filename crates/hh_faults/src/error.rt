@@ -120,6 +120,10 @@ pub enum ToolError {
     /// Of the greatest keys only the first `certain` are known; each other weighs at most `most`.
     #[error("of the greatest keys only {certain} are certain")]
     TopUncertain { certain: u64, most: u64 },
+    /// Of the heavy keys `certain` are known, with their weights, and `uncertain` more keys can be
+    /// heavy.
+    #[error("of the heavy keys only {certain} are certain")]
+    ReportUncertain { certain: u64, uncertain: u64 },
 }
 
 impl ToolError {
@@ -149,7 +153,8 @@ impl ToolError {
             | ToolError::TotalDiffers
             | ToolError::NoColumn
             | ToolError::WeightOutside
-            | ToolError::TopUncertain { .. } => 3,
+            | ToolError::TopUncertain { .. }
+            | ToolError::ReportUncertain { .. } => 3,
             ToolError::Memory => 4,
         }
     }

@@ -1,6 +1,7 @@
 pub mod CondenseFacts
 pub mod ConfirmFacts
 pub mod FilePieceFacts
+pub mod OnceFacts
 pub mod ReportFacts
 pub mod SourceFacts
 pub mod SourceReportFacts

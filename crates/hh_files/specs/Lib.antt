@@ -1,5 +1,6 @@
 pub mod FilePasses
 pub mod FilePieces
+pub mod OnceReports
 pub mod Report
 pub mod TableFiles
 pub mod SummaryFiles

@@ -26,3 +26,11 @@ shared_room memory = room_of 256 (2 * (max_k + 1)) memory
 -- the room of the one worker who has all memory
 abbrev pub whole_room : ℕ → Room
 whole_room memory = room_of 128 max_keys memory
+
+-- the room of a report by one reading with k counters: 128 bytes a key, and 2 (k + 1) keys whatever bytes they have
+abbrev pub once_room : ℕ → ℕ → Room
+once_room k memory = record {
+  keys = max (2 * (k + 1)) (min max_keys (max 256000 memory / 128));
+  few = 2 * (k + 1);
+  bytes = max 256000 memory / 4;
+}

@@ -6,4 +6,4 @@ pub mod laws;
 mod rooms;
 
 pub use choice::Shortlist;
-pub use rooms::{counted_in, shared_room, whole_room};
+pub use rooms::{counted_in, once_room, shared_room, whole_room};

@@ -1,9 +1,10 @@
 //! How much the tallies for the greatest keys keep, by the memory that there is.
 
-ghost use Rattle.std.specs.Prelude.{◌≡◌, ◌+◌, ◌*◌, ◌/◌, ◌≤◌, max, min};
+ghost use Rattle.std.specs.Prelude.{◌≡◌, ◌+◌, ◌*◌, ◌/◌, ◌≤◌, max, min, true};
+ghost use Rattle.hh_stream.specs.Ranges.{in_range};
 ghost use Rattle.hh_summaries.specs.Counters.{max_k};
 ghost use Rattle.hh_tally.specs.Tallies.{IsRoom};
-ghost use Rattle.hh_top.specs.Rooms.{counted_in, shared_room, whole_room};
+ghost use Rattle.hh_top.specs.Rooms.{counted_in, once_room, shared_room, whole_room};
 
 use hh_counters::MAX_K;
 use hh_tally::{MAX_KEYS, Room};
@@ -39,6 +40,23 @@ pub fn shared_room(memory: u64) -> Room
     let memory = memory.max(LEAST_MEMORY);
     Room {
         keys: ((memory / MERGED_COST) as usize).min(2 * (MAX_K as usize + 1)),
+        few,
+        bytes: (memory / 4) as usize,
+    }
+}
+
+/// Room for the tally of the one thread that makes a report with `k` counters by `memory` bytes, a
+/// few more or less, and reads its records once.
+pub fn once_room(k: u64, memory: u64) -> Room
+    requires { in_range k max_k ≡ true }
+    ensures room { result ≡ once_room k memory }
+    ensures fits { IsRoom result }
+    ensures share { k + 1 ≤ result.few / 2 }
+{
+    let few = 2 * (k as usize + 1);
+    let memory = memory.max(LEAST_MEMORY);
+    Room {
+        keys: few.max(((memory / KEY_COST) as usize).min(MAX_KEYS)),
         few,
         bytes: (memory / 4) as usize,
     }

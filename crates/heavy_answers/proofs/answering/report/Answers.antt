@@ -2,23 +2,15 @@ use Rattle.std.proofs.Common.{inl, inr}
 use Rattle.std.proofs.lemmas.Result.{err_from_is_err_and}
 use Rattle.hh_records.specs.Layouts.{texts_known}
 use Rattle.hh_pieces.specs.Texts.{records_known}
-use Rattle.heavy_answers.proofs.AnswerLemmas.{if_err_more, if_ok_more, of_records, planned, tallied}
+use Rattle.heavy_answers.proofs.AnswerLemmas.{if_ok_more, of_records, read_again, read_once}
 use Rattle.heavy_answers.proofs.InputLemmas.{records_are_of}
 use Rattle.heavy_answers.proofs.answering.report.Goals as goal
 
 pub returns-then-asked-clause-made : goal.returns-then-asked-clause-made
 returns-then-asked-clause-made g c =
-    let records = c.in_ok-records.records in
-    if_ok_more c.report_rows.result
-    (λ bytes made. of_records _ _ _ records.layout (records_known g.H.Reader.Read.remaining records) c.in_ok-records.ensures.records
-    (made.0, planned c.args.asked.now.by_plan c.if-asked.true made.1)) c.report_rows.ensures.rows
-
-pub returns-then-asked-clause-refused : goal.returns-then-asked-clause-refused
-returns-then-asked-clause-refused g c =
-    let records = c.in_ok-records.records in
-    if_err_more c.report_rows.result
-    (λ fault fails. inr (of_records _ _ _ records.layout (records_known g.H.Reader.Read.remaining records)
-    c.in_ok-records.ensures.records fails)) c.report_rows.ensures.refused
+    if_ok_more c.report_in_turn.result
+    (λ bytes of. of_records _ _ _ of.layout of.known of.records (of.made.0, read_once _ c.if-asked.true of.made.1))
+    c.report_in_turn.ensures.made
 
 pub returns-in_err-bytes-clause-refused : goal.returns-in_err-bytes-clause-refused
 returns-in_err-bytes-clause-refused g c =
@@ -40,12 +32,7 @@ returns-clause-made g c =
     (records_are_of (g.H.Host.opens c.args.host.now) c.args.asked.now.records opened.layout files.layout g.H.Host.text g.H.File.ReadAt.bytes
     opened.inputs.items files.files.items c.in_ok-files.ensures.layout c.in_ok-opened.ensures.layout c.in_ok-opened.ensures.opened
     c.in_ok-files.ensures.texts)
-    (made.0, tallied c.args.asked.now.by_plan c.if-asked.false made.1)
-
-pub returns-in_err-records-clause-refused : goal.returns-in_err-records-clause-refused
-returns-in_err-records-clause-refused g c =
-    let p = err_from_is_err_and c.from_residual.result c.from_residual.ensures.1 in
-    rw (p.1, p.2) (inl (inl c.in_err-records.ensures.refused))
+    (made.0, read_again _ c.if-asked.false made.1)
 
 pub returns-in_err-opened-clause-refused : goal.returns-in_err-opened-clause-refused
 returns-in_err-opened-clause-refused g c =
