@@ -22,7 +22,7 @@ use Rattle.hh_counters.specs.SpaceSaving.{least_of, monitor_of, monitor_with, sp
 use Rattle.hh_library.specs.Add.{total_in, value_and}
 use Rattle.hh_library.specs.Accumulator.{Grows, HasSeen, heavier, value_of}
 use Rattle.hh_library.specs.declared.accumulator.Form.{Form}
-use Rattle.hh_library.specs.declared.accumulator.Form.TheVariants.{Monitored, Whole}
+use Rattle.hh_library.specs.declared.accumulator.Form.TheVariants.{Monitored}
 
 -- ---- an item more
 module _ (monitors : MonitorsFollowItems) (m : SummaryView) (e : Entry) (some : 0 < e.1) (seen : HasSeen m) where
@@ -185,7 +185,3 @@ module _ (v : Saved) (file : List ℕ) where
     λ refused. refuses_along e (merge_saved 2 v next) (merged_from 2 v (file ∷ [])) (merged_so next read (Err e))
         (subst (λ (s : Saved). Refuses (merge_saved 2 s next) e) is refused),
   )
-
--- the value of a form that is the value itself
-pub whole_value : (v w : Saved) → Whole v ≡ Whole w → v ≡ w
-whole_value v w same = cc
