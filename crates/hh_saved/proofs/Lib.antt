@@ -2,6 +2,7 @@ pub mod Blocks
 pub mod Entries
 pub mod Families
 pub mod Fields
+pub mod Firsts
 pub mod Grids
 pub mod Loops
 pub mod Values

@@ -1,5 +1,5 @@
 -- What holds of the definitions.
-use Rattle.std.specs.Prelude.{◌≡◌, ◌≤◌, ℕ, List, [], ◌++◌, length, Ok}
+use Rattle.std.specs.Prelude.{◌≡◌, ◌≤◌, ◌<◌, ◌⊎◌, ℕ, List, [], ◌++◌, length, take, Ok, Err}
 use Rattle.std.specs.List.{AllByRecursion}
 use Rattle.hh_stream.specs.Weights.{max_key_len}
 use Rattle.hh_summaries.specs.Counters.{SummaryView}
@@ -8,6 +8,8 @@ use Rattle.hh_saved.specs.declared.format.Version.{Version}
 use Rattle.hh_saved.specs.declared.format.Version.TheVariants.{One, Two}
 use Rattle.hh_saved.specs.declared.saved.Saved.{Saved}
 use Rattle.hh_saved.specs.declared.saved.Saved.TheVariants.{Counters, Cells}
+use Rattle.hh_faults.specs.declared.saved.SavedFault.{SavedFault}
+use Rattle.hh_faults.specs.declared.saved.SavedFault.TheVariants as faults
 use Rattle.hh_saved.specs.Reading.{saved_of}
 use Rattle.hh_saved.specs.Sizes.{most_summary_bytes, table_bytes}
 use Rattle.hh_saved.specs.Spelling.{IsSaved, Spells, spelling_of}
@@ -31,6 +33,29 @@ FilesReadAlikeHoldOneValue =
 -- what version 1 can spell, version 2 can
 abbrev pub VersionTwoSpellsVersionOne : Type 0
 VersionTwoSpellsVersionOne = (v : Saved) → IsSaved One v → IsSaved Two v
+
+-- a text that is cut short, and so is each beginning of it
+abbrev pub IsCutShort : List ℕ → SavedFault → Type 0
+IsCutShort bytes fault = (fault ≡ faults.Truncated) × ((m : ℕ) → saved_of (take m bytes) ≡ Err faults.Truncated)
+
+-- the first n bytes of a text decide its fault: each text that begins with them has it, and one of which fewer are left is
+-- cut short
+pub record IsDecidedBy (bytes : List ℕ) (fault : SavedFault) (n : ℕ) : Type 0 where
+  pub within : n ≤ length bytes
+  pub before : (m : ℕ) → m < n → saved_of (take m bytes) ≡ Err faults.Truncated
+  pub after : (other : List ℕ) → take n other ≡ take n bytes → saved_of other ≡ Err fault
+
+-- bytes follow those that spell a value
+abbrev pub IsFollowed : List ℕ → SavedFault → Type 0
+IsFollowed bytes fault =
+    (fault ≡ faults.Trailing) × (n : ℕ) × (v : Saved) × (n < length bytes) × (saved_of (take n bytes) ≡ Ok v)
+
+-- the fault of a text is that of its first field from the left that is short or fails: nothing behind that field counts, and
+-- without its end the text is cut short. Where no field does, bytes follow
+abbrev pub FaultsAreFirst : Type 0
+FaultsAreFirst =
+    (bytes : List ℕ) (fault : SavedFault) → saved_of bytes ≡ Err fault
+    → IsCutShort bytes fault ⊎ (((n : ℕ) × IsDecidedBy bytes fault n) ⊎ IsFollowed bytes fault)
 
 -- a summary has a head of 17 bytes and for each of at most k counters its key's bytes and 10 more
 abbrev pub SummariesAreBounded : Type 0

@@ -15,4 +15,4 @@ returns-clause-sorted c =
     (counters-tally es c.requires.positive) (λ q. sym (weight_of-tally q es))
 
 pub returns-clause-count : goal.returns-clause-count
-returns-clause-count c = sym (length_permutation _ _ c.sort_unstable_by.ensures.permutation)
+returns-clause-count c = length_permutation _ _ c.sort_unstable_by.ensures.permutation
