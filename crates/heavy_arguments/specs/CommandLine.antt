@@ -1,6 +1,6 @@
 -- What `clap` reads of the program's command line: each command with its arguments, each argument with its name and how it
 -- is given, all by the table of commands.
-use Rattle.std.specs.Prelude.{◌≡◌, pos, true, List, [], ◌∷◌, ◌++◌, ℕ, Some, codes, map, fold}
+use Rattle.std.specs.Prelude.{◌≡◌, Bool, pos, true, false, List, [], ◌∷◌, ◌++◌, ℕ, Some, codes, map, fold}
 use Rattle.std.specs.Borrow.{Bor}
 use Rattle.clap.specs.Lexer.{usize_max}
 use Rattle.clap.specs.Walk.{Rule, Text}
