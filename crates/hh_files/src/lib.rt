@@ -5,6 +5,7 @@
 mod by_workers;
 mod condensing;
 mod confirming;
+mod crew;
 mod file_passes;
 mod file_pieces;
 mod reporting;
