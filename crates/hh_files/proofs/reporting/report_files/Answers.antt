@@ -22,12 +22,12 @@ returns-in-Ok-keys_of_sources-clause-rows g c =
     let found = c.in-Ok-keys_of_sources in (
       prepared.options,
       rows_of_keys r o known.names_columns known.reading c.in-Ok.prepared.p c.in-Ok.prepared.q found.total found.keys.items
-          c.in_ok-printed_text.field-0.items prepared.threshold
-          (c.in_ok-printed_text.ensures ∙ ap (printed_rows found.total r) c.deref.ensures.value) found.ensures.keys,
+          c.in_ok-printed_text-in-Ok-keys_of_sources.field-0.items prepared.threshold
+          (c.in_ok-printed_text-in-Ok-keys_of_sources.ensures ∙ ap (printed_rows found.total r) c.deref.ensures.value) found.ensures.keys,
     )
 
-pub returns-in-Err-keys_of_sources-clause-refused : goal.returns-in-Err-keys_of_sources-clause-refused
-returns-in-Err-keys_of_sources-clause-refused g c =
+pub returns-clause-refused : goal.returns-clause-refused
+returns-clause-refused g c =
     let known = sources_known g.F.ReadAt.bytes c.args.records in
     start_refused c.args.options.now known c.in-Err-keys_of_sources.fault c.in-Ok.ensures.prepared.options
     c.in-Err-keys_of_sources.ensures.refused
