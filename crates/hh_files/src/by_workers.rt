@@ -1,14 +1,13 @@
 //! Files of records that workers read in pieces: the one place that cuts them, shares them out,
 //! falls back to one thread, and looks whether they are still the same.
 
-ghost use Rattle.std.specs.Prelude.{◌≡◌, ◌<◌, ◌≤◌, [], true, All, IfOk, IfErr, IfSome, OnOk};
+ghost use Rattle.std.specs.Prelude.{◌<◌, ◌≤◌, [], All, IfOk, IfErr, IfSome, OnOk};
 ghost use Rattle.hh_stream.specs.Cuttings.{max_pieces};
-ghost use Rattle.hh_stream.specs.Ranges.{in_range};
-ghost use Rattle.hh_workers.specs.Workers.{max_workers};
 ghost use Rattle.hh_pieces.specs.Sources.{sources_known};
 ghost use Rattle.hh_records.specs.Refusals.{RecordsRefused};
 ghost use Rattle.hh_records.specs.Taking.{GathersRecords};
 
+use crate::crew::Crew;
 use crate::file_pieces::FilePieces;
 use hh_faults::ToolError;
 use hh_pieces::{CutFiles, ReadAt, SourceRecords};
@@ -19,37 +18,34 @@ use std::alloc::{AllocError, Global};
 use std::sync::Wait;
 use std::thread::Threads;
 
-/// The number of pieces in which `workers` workers read `texts` texts: four for each worker, and
-/// one for each text.
-fn piece_count(workers: u64, texts: usize) -> usize
-    requires { in_range workers max_workers ≡ true }
+/// The number of pieces in which workers read `texts` texts: four for each worker, and one for each
+/// text.
+fn piece_count<R>(crew: &Crew<'_, R>, texts: usize) -> usize
     ensures some { 0 < result }
     ensures few { result ≤ max_pieces }
 {
-    let most = MAX_PIECES - 4 * workers as usize;
-    4 * workers as usize + texts.min(most)
+    let pieces = 4 * crew.workers as usize;
+    pieces + texts.min(MAX_PIECES - pieces)
 }
 
 /// What workers gather of `records`, with the settings of `start`, if each piece of the files can
 /// be read by itself.
 fn gather_side_by_side<R: Threads + Wait + Sync, S: ReadAt + Sync, T: Sketch>(
-    rt: &R,
+    crew: &Crew<'_, R>,
     alloc: Global,
     start: &T,
-    workers: u64,
     records: SourceRecords<'_, S>,
 ) -> Result<Option<T>, AllocError>
-    requires { in_range workers max_workers ≡ true }
     ensures { IfOk result (λ made. IfSome made
         (GathersRecords (T.is_of start.now) (sources_known S.bytes records.entry))) }
 {
     start.follow_items();
-    let most = piece_count(workers, records.sources.len());
+    let most = piece_count(crew, records.sources.len());
     let Some(files) = CutFiles::new(alloc, records.layout, records.sources, most)? else {
         return Ok(None);
     };
     let pieces = FilePieces::new(files);
-    match gather_pieces(rt, alloc, &pieces, start, workers) {
+    match gather_pieces(crew.rt, alloc, &pieces, start, crew.workers) {
         Ok(made) => Ok(Some(made)),
         Err(PieceFault::Refused) => Ok(None),
         Err(PieceFault::Memory) => Err(AllocError),
@@ -62,20 +58,18 @@ fn gather_side_by_side<R: Threads + Wait + Sync, S: ReadAt + Sync, T: Sketch>(
 /// that the first refusal has its number. If a file was changed meanwhile, the error is
 /// [`ToolError::ReadFault`].
 pub(crate) fn gather_by_workers<R: Threads + Wait + Sync, S: ReadAt + Sync, T: Sketch>(
-    rt: &R,
+    crew: &Crew<'_, R>,
     alloc: Global,
     start: T,
-    workers: u64,
     records: SourceRecords<'_, S>,
 ) -> Result<T, ToolError>
-    requires workers { in_range workers max_workers ≡ true }
     requires none { T.is_of start [] start }
     ensures made { IfOk result
         (GathersRecords (T.is_of start) (sources_known S.bytes records.entry)) }
     ensures still { OnOk result (All S.still records.entry.sources.now) }
     ensures refused { IfErr result (RecordsRefused (sources_known S.bytes records.entry)) }
 {
-    let made = match gather_side_by_side(rt, alloc, &start, workers, records)? {
+    let made = match gather_side_by_side(crew, alloc, &start, records)? {
         Some(made) => made,
         None => gather_in_turn(alloc, start, records)?,
     };

@@ -9,6 +9,7 @@ ghost use Rattle.hh_commands.specs.Condense.{CondensesRows, TellsAbove};
 ghost use Rattle.hh_files.specs.FilePasses.{CondenseFilesRefused};
 ghost use Rattle.hh_commands.specs.Files.{StopsAtHead};
 
+use crate::crew::Crew;
 use crate::file_passes::count_sources;
 use hh_commands::{Bounds, Comparison, condensed_part, summary_in};
 use hh_counters::Candidates;
@@ -61,7 +62,7 @@ pub fn condense_files<T: Threads + Wait + Sync, S: ReadAt + Sync>(
         return Err(ToolError::BadWorkers);
     }
     let candidates = Candidates::with_hasher(alloc, &summary, records.layout.hash)?;
-    let counts = count_sources(rt, alloc, &candidates, workers, records)?;
+    let counts = count_sources(&Crew { rt, workers }, alloc, &candidates, records)?;
     let decimals = records.layout.decimals;
     condensed_part(alloc, &summary, &counts, decimals, compared)
 }

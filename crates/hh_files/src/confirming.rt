@@ -9,6 +9,7 @@ ghost use Rattle.hh_commands.specs.Confirm.{ConfirmsPrinted, TellsCompared};
 ghost use Rattle.hh_files.specs.FilePasses.{ConfirmFilesRefused};
 ghost use Rattle.hh_commands.specs.Files.{StopsAtHead};
 
+use crate::crew::Crew;
 use crate::file_passes::count_sources;
 use hh_commands::{Bounds, Comparison, confirmed_text, summary_in};
 use hh_counters::Candidates;
@@ -67,6 +68,6 @@ pub fn confirm_files<T: Threads + Wait + Sync, S: ReadAt + Sync>(
         return Err(ToolError::BadWorkers);
     }
     let candidates = Candidates::with_hasher(alloc, &summary, records.layout.hash)?;
-    let counts = count_sources(rt, alloc, &candidates, workers, records)?;
+    let counts = count_sources(&Crew { rt, workers }, alloc, &candidates, records)?;
     confirmed_text(alloc, &summary, share, rows, &counts, compared)
 }

@@ -7,6 +7,7 @@ mod by_plan;
 mod by_workers;
 mod condensing;
 mod confirming;
+mod crew;
 mod file_passes;
 mod file_pieces;
 mod once;

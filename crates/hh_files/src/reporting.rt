@@ -1,21 +1,21 @@
 //! A report of files, of which no item is kept.
 
-ghost use Rattle.std.specs.Prelude.{◌≡◌, ◌≤◌, ◌+◌, ◌*◌, ◌/◌, All, List, length, true};
+ghost use Rattle.std.specs.Prelude.{◌≡◌, ◌≤◌, ◌+◌, ◌*◌, ◌/◌, All, length, true};
 ghost use Rattle.std.specs.Prelude.{IfOk, IfErr, IfSome, OnOk, Err};
 ghost use Rattle.std.specs.List.Sorted.{IsStrictlySortedBy};
 ghost use Rattle.std.specs.Map.{keys_of};
 ghost use Rattle.hh_summaries.specs.Counters.{max_k};
 ghost use Rattle.hh_summaries.specs.Report.{IsShare};
 ghost use Rattle.hh_stream.specs.Ranges.{in_range};
-ghost use Rattle.hh_stream.specs.Weights.{Entry, key_cmp, total_of};
+ghost use Rattle.hh_stream.specs.Weights.{key_cmp};
 ghost use Rattle.hh_pieces.specs.Sources.{sources_known};
 ghost use Rattle.hh_records.specs.Refusals.{RecordsRefused};
-ghost use Rattle.hh_workers.specs.Workers.{max_workers};
-ghost use Rattle.hh_files.specs.FilePasses.{IfKnown, TalliesRecords, WeighsRecords};
-ghost use Rattle.hh_files.specs.Report.{AreOptions, FindsKeys, PrintsFileRows, ReportsKeys};
+ghost use Rattle.hh_files.specs.FilePasses.{TalliesRecords, WeighsRecords};
+ghost use Rattle.hh_files.specs.Report.{AreOptions, FindsKeys, PrintsFileRows};
 ghost use Rattle.hh_files.specs.Report.{StartRefused, bad_option};
 
 use crate::by_plan::prepare;
+use crate::crew::Crew;
 use crate::file_passes::{tally_of_sources, weights_in};
 use hh_counters::{Candidates, Heavy};
 use hh_faults::ToolError;
@@ -30,14 +30,12 @@ use std::thread::Threads;
 /// Finds the weights of the keys of `contenders` in `records`, whose tally this is: those of which
 /// it isn't sure are counted, in another pass.
 fn weights_of<T: Threads + Wait + Sync, S: ReadAt + Sync>(
-    rt: &T,
+    crew: &Crew<'_, T>,
     alloc: Global,
     tally: &Tally,
     contenders: &[(Key, u64)],
-    workers: u64,
     records: SourceRecords<'_, S>,
 ) -> Result<Vec<u64>, ToolError>
-    requires workers { in_range workers max_workers ≡ true }
     requires rising { IsStrictlySortedBy key_cmp (keys_of contenders.now) }
     requires tally { TalliesRecords tally.now.room (sources_known S.bytes records) tally.now }
     requires still { All S.still records.sources.now }
@@ -49,21 +47,19 @@ fn weights_of<T: Threads + Wait + Sync, S: ReadAt + Sync>(
 {
     let unsure = tally.unsure(alloc, contenders)?;
     let candidates = Candidates::of_entries(alloc, &unsure, records.layout.hash)?;
-    let counted = weights_in(rt, alloc, tally.total(), &candidates, workers, records)?;
+    let counted = weights_in(crew, alloc, tally.total(), &candidates, records)?;
     Ok(tally.weights(alloc, contenders, &counted)?)
 }
 
 /// Finds the keys of `records`, whose tally this is, that weigh more than p/q of the total.
 fn heavy_by<T: Threads + Wait + Sync, S: ReadAt + Sync>(
-    rt: &T,
+    crew: &Crew<'_, T>,
     alloc: Global,
     tally: &Tally,
     p: u64,
     q: u64,
-    workers: u64,
     records: SourceRecords<'_, S>,
 ) -> Result<Vec<Heavy>, ToolError>
-    requires workers { in_range workers max_workers ≡ true }
     requires share { IsShare p q }
     requires enough { q ≤ p * (tally.now.room.few / 2) }
     requires tally { TalliesRecords tally.now.room (sources_known S.bytes records) tally.now }
@@ -74,7 +70,7 @@ fn heavy_by<T: Threads + Wait + Sync, S: ReadAt + Sync>(
     ensures refused { IfErr result (RecordsRefused (sources_known S.bytes records.entry)) }
 {
     let contenders = tally.contenders(alloc, p, q)?;
-    let weights = weights_of(rt, alloc, tally, &contenders, workers, records)?;
+    let weights = weights_of(crew, alloc, tally, &contenders, records)?;
     let candidates = Candidates::of_entries(alloc, &contenders, records.layout.hash)?;
     Ok(candidates.select(&weights, tally.total(), p, q)?)
 }
@@ -82,16 +78,14 @@ fn heavy_by<T: Threads + Wait + Sync, S: ReadAt + Sync>(
 /// Finds the total of `records` and the keys that weigh more than p/q of it, by a tally with room
 /// for `k` counters.
 fn keys_of_sources<T: Threads + Wait + Sync, S: ReadAt + Sync>(
-    rt: &T,
+    crew: &Crew<'_, T>,
     alloc: Global,
     records: SourceRecords<'_, S>,
     k: u64,
-    workers: u64,
     p: u64,
     q: u64,
 ) -> Result<(u64, Vec<Heavy>), ToolError>
     requires k { in_range k max_k ≡ true }
-    requires workers { in_range workers max_workers ≡ true }
     requires share { IsShare p q }
     requires enough { q ≤ p * (k + 1) }
     ensures keys { IfOk result (λ keys. FindsKeys (sources_known S.bytes records.entry) p q
@@ -100,33 +94,9 @@ fn keys_of_sources<T: Threads + Wait + Sync, S: ReadAt + Sync>(
     ensures refused { IfErr result (RecordsRefused (sources_known S.bytes records.entry)) }
 {
     let room = Room::for_counters(k);
-    let tally = tally_of_sources(rt, alloc, room, workers, records)?;
-    let keys = heavy_by(rt, alloc, &tally, p, q, workers, records)?;
+    let tally = tally_of_sources(crew, alloc, room, records)?;
+    let keys = heavy_by(crew, alloc, &tally, p, q, records)?;
     Ok((tally.total(), keys))
-}
-
-/// Tests `options`, and then finds the total of `records` and the keys that their report has.
-fn reported_of_files<T: Threads + Wait + Sync, S: ReadAt + Sync>(
-    rt: &T,
-    alloc: Global,
-    options: &ReportOptions,
-    records: SourceRecords<'_, S>,
-) -> Result<(u64, Vec<Heavy>), ToolError>
-    ensures keys { IfOk result (λ keys. AreOptions options.now × IfKnown
-        (sources_known S.bytes records.entry) ((xs : List Entry) × (keys.0 ≡ total_of xs) ×
-        ReportsKeys options.now (sources_known S.bytes records.entry) xs keys.1.items)) }
-    ensures still { OnOk result (All S.still records.entry.sources.now) }
-    ensures refused { IfErr result
-        (StartRefused options.now (sources_known S.bytes records.entry)) }
-    ensures bad_option { IfSome (bad_option options.now) (λ fault. result ≡ Err fault) }
-{
-    match prepare(alloc, options) {
-        Ok(prepared) => {
-            let (p, q) = (prepared.p, prepared.q);
-            keys_of_sources(rt, alloc, records, options.k, options.workers, p, q)
-        }
-        Err(fault) => Err(fault),
-    }
 }
 
 /// Makes the rows of the report of files of any size, as [`report_rows`](crate::report_rows)
@@ -155,6 +125,16 @@ pub fn report_files<T: Threads + Wait + Sync, F: ReadAt + Sync>(
         (StartRefused options.now (sources_known F.bytes records.entry)) }
     ensures bad_option { IfSome (bad_option options.now) (λ fault. result ≡ Err fault) }
 {
-    let (total, keys) = reported_of_files(rt, alloc, options, records)?;
-    Ok(printed_text(alloc, total, rows, &keys)?)
+    let prepared = match prepare(alloc, options) {
+        Ok(prepared) => prepared,
+        Err(fault) => return Err(fault),
+    };
+    let crew = Crew {
+        rt,
+        workers: options.workers,
+    };
+    match keys_of_sources(&crew, alloc, records, options.k, prepared.p, prepared.q) {
+        Ok((total, keys)) => Ok(printed_text(alloc, total, rows, &keys)?),
+        Err(fault) => Err(fault),
+    }
 }

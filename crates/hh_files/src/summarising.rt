@@ -3,7 +3,6 @@
 ghost use Rattle.std.specs.Prelude.{◌≡◌, All, true, IfOk, IfErr, IfSome, OnOk, Err};
 ghost use Rattle.hh_stream.specs.Ranges.{in_range};
 ghost use Rattle.hh_summaries.specs.Counters.{max_k, sketch_of};
-ghost use Rattle.hh_workers.specs.Workers.{max_workers};
 ghost use Rattle.hh_saved.specs.declared.saved.Saved.TheVariants.{Counters};
 ghost use Rattle.hh_pieces.specs.Sources.{sources_known};
 ghost use Rattle.hh_records.specs.Refusals.{RecordsRefused, RefusedAfter};
@@ -11,6 +10,7 @@ ghost use Rattle.hh_commands.specs.Records.{SavesStream};
 ghost use Rattle.hh_files.specs.SummaryFiles.{SavesSummary, SummarisesRecords};
 ghost use Rattle.hh_files.specs.SummaryFiles.{bad_summary_of_files};
 
+use crate::crew::Crew;
 use crate::file_passes::tally_of_sources;
 use hh_commands::summary_bytes_from;
 use hh_counters::laws::misra_gries_is_honest;
@@ -28,20 +28,18 @@ use std::thread::Threads;
 /// The summary of records in files: the `k` greatest counters of their tally, with as much room as
 /// these want for each worker.
 fn summary_of_sources<T: Threads + Wait + Sync, S: ReadAt + Sync>(
-    rt: &T,
+    crew: &Crew<'_, T>,
     alloc: Global,
     k: u64,
-    workers: u64,
     records: SourceRecords<'_, S>,
 ) -> Result<Summary, ToolError>
     requires k { in_range k max_k ≡ true }
-    requires workers { in_range workers max_workers ≡ true }
     ensures summary { IfOk result (SummarisesRecords k (sources_known S.bytes records.entry)) }
     ensures still { OnOk result (All S.still records.entry.sources.now) }
     ensures refused { IfErr result (RecordsRefused (sources_known S.bytes records.entry)) }
 {
     let room = Room::for_counters(k);
-    let tally = tally_of_sources(rt, alloc, room, workers, records)?;
+    let tally = tally_of_sources(crew, alloc, room, records)?;
     let summary = tally.into_summary(alloc, k)?;
     Ok(summary)
 }
@@ -94,6 +92,6 @@ pub fn summarise_files<T: Threads + Wait + Sync, S: ReadAt + Sync>(
         records.check()?;
         return Ok(bytes);
     }
-    let summary = summary_of_sources(rt, alloc, k, workers, records)?;
+    let summary = summary_of_sources(&Crew { rt, workers }, alloc, k, records)?;
     Ok(write(alloc, &Saved::Counters(summary))?)
 }

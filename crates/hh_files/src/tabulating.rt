@@ -10,6 +10,7 @@ ghost use Rattle.hh_records.specs.Refusals.{RefusedAfter};
 ghost use Rattle.hh_files.specs.TableFiles.{bad_table_of_files};
 
 use crate::by_workers::gather_by_workers;
+use crate::crew::Crew;
 use hh_commands::drawn_table;
 use hh_countmin::{MAX_DEPTH, MAX_WIDTH};
 use hh_faults::ToolError;
@@ -61,6 +62,6 @@ pub fn table_files<T: Threads + Wait + Sync, S: ReadAt + Sync>(
         return Err(ToolError::BadWorkers);
     }
     let start = drawn_table(alloc, width, depth, seed)?;
-    let table = gather_by_workers(rt, alloc, start, workers, records)?;
+    let table = gather_by_workers(&Crew { rt, workers }, alloc, start, records)?;
     Ok(write(alloc, &Saved::Cells(table))?)
 }

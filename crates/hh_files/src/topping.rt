@@ -12,6 +12,7 @@ ghost use Rattle.hh_files.specs.FilePasses.{TalliesRecords};
 ghost use Rattle.hh_files.specs.TopFiles.{FindsTop, IsSharedRoom, ListRefused, PrintsTop};
 ghost use Rattle.hh_files.specs.TopFiles.{TopFilesRefused, TopRefused};
 
+use crate::crew::Crew;
 use crate::file_passes::{tally_of_sources, weights_in};
 use hh_counters::Heavy;
 use hh_faults::ToolError;
@@ -38,17 +39,15 @@ pub struct TopOptions {
 }
 
 /// The shortlist of the `n` greatest keys, of which at most `k` are to be counted, by a tally of
-/// `records` that `workers` make with this `room` each.
+/// `records` that workers make with this `room` each.
 fn shortlist_by<T: Threads + Wait + Sync, S: ReadAt + Sync>(
-    rt: &T,
+    crew: &Crew<'_, T>,
     alloc: Global,
     n: u64,
     k: u64,
     room: Room,
-    workers: u64,
     records: SourceRecords<'_, S>,
 ) -> Result<Shortlist, ToolError>
-    requires workers { in_range workers max_workers ≡ true }
     requires room { IsRoom room }
     requires share { 2 * (k + 1) ≤ room.few }
     requires most { k ≤ max_k }
@@ -60,7 +59,7 @@ fn shortlist_by<T: Threads + Wait + Sync, S: ReadAt + Sync>(
     ensures still { OnOk result (All S.still records.entry.sources.now) }
     ensures refused { IfErr result (RecordsRefused (sources_known S.bytes records.entry)) }
 {
-    let tally = tally_of_sources(rt, alloc, room, workers, records)?;
+    let tally = tally_of_sources(crew, alloc, room, records)?;
     Ok(Shortlist::of(alloc, tally, n, k)?)
 }
 
@@ -85,14 +84,14 @@ fn shortlist_of<T: Threads + Wait + Sync, S: ReadAt + Sync>(
     let (n, workers, memory) = (options.n, options.workers, options.memory);
     let share = memory / workers;
     let (k, room) = (counted_in(share), shared_room(share));
-    let list = shortlist_by(rt, alloc, n, k, room, workers, records)?;
+    let list = shortlist_by(&Crew { rt, workers }, alloc, n, k, room, records)?;
     if list.tally().is_exact() || list.stands_out() {
         return Ok(list);
     }
     let total = list.tally().total();
     drop(list);
     let (k, room) = (counted_in(memory), whole_room(memory));
-    let grown = shortlist_by(rt, alloc, n, k, room, 1, records)?;
+    let grown = shortlist_by(&Crew { rt, workers: 1 }, alloc, n, k, room, records)?;
     if grown.tally().total() != total {
         return Err(ToolError::ReadFault);
     }
@@ -103,13 +102,11 @@ fn shortlist_of<T: Threads + Wait + Sync, S: ReadAt + Sync>(
 /// where it lost nothing, and else by counting those that can be among them, but of which the tally
 /// isn't sure.
 fn top_of_list<T: Threads + Wait + Sync, S: ReadAt + Sync>(
-    rt: &T,
+    crew: &Crew<'_, T>,
     alloc: Global,
     list: &Shortlist,
-    workers: u64,
     records: SourceRecords<'_, S>,
 ) -> Result<Vec<Heavy>, ToolError>
-    requires workers { in_range workers max_workers ≡ true }
     requires tally { TalliesRecords list.now.tally.room
         (sources_known S.bytes records) list.now.tally }
     requires still { All S.still records.sources.now }
@@ -124,7 +121,7 @@ fn top_of_list<T: Threads + Wait + Sync, S: ReadAt + Sync>(
     }
     let choice = list.choice(alloc, records.layout.hash)?;
     let total = list.tally().total();
-    let counted = match weights_in(rt, alloc, total, &choice, workers, records) {
+    let counted = match weights_in(crew, alloc, total, &choice, records) {
         Ok(counted) => counted,
         Err(fault) => return Err(fault),
     };
@@ -149,7 +146,11 @@ fn top_of_sources<T: Threads + Wait + Sync, S: ReadAt + Sync>(
         Ok(list) => list,
         Err(fault) => return Err(fault),
     };
-    match top_of_list(rt, alloc, &list, options.workers, records) {
+    let crew = Crew {
+        rt,
+        workers: options.workers,
+    };
+    match top_of_list(&crew, alloc, &list, records) {
         Ok(keys) => Ok((list.tally().total(), keys)),
         Err(fault) => Err(fault),
     }

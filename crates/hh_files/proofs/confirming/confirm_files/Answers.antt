@@ -38,9 +38,6 @@ returns-clause-explained g c =
     c.in_ok-summary.summary c.in_ok-summary.ensures.summary c.in_ok-counts.counts counted
     c.args.compared.now.refuses c.confirmed_text.new.compared c.confirmed_text.result c.confirmed_text.ensures.refused
 
-pub count_sources-requires-clause-workers : goal.count_sources-requires-clause-workers
-count_sources-requires-clause-workers g c = search rules
-
 pub returns-in_err-counts-clause-refused : goal.returns-in_err-counts-clause-refused
 returns-in_err-counts-clause-refused g c = search rules
 
