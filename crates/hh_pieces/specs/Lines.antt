@@ -1,5 +1,5 @@
 -- The records of a text without quotes, line by line.
-use Rattle.std.specs.Prelude.{◌≡◌, ◌==◌, ◌||◌, ◌&&◌, ◌+◌, ◌<◌, ◌≤◌, ℕ, Bool, true, false, List, [], ◌∷◌, length, map, not, drop, slice_range, Option, Some, None, option_map}
+use Rattle.std.specs.Prelude.{◌≡◌, ◌==◌, ◌||◌, ◌&&◌, ◌+◌, ◌<◌, ◌≤◌, ℕ, Bool, true, false, List, [], ◌∷◌, length, map, not, drop, slice_range, Option, Some, None, option_map, ⊤}
 use Rattle.std.specs.List.{AllByRecursion, filter, position_or_len, slice_split}
 use Rattle.csv.specs.Machine.{carriage_return, line_feed}
 use Rattle.memchr.specs.Find.{Nowhere, Passes, is_byte, is_byte2}
@@ -64,6 +64,12 @@ key_parts part p = option_map (λ p. (part_of part p.0, p.1)) p
 -- the part of the key and the weight's field of a line that is cut so
 abbrev pub line_parts : Part → LineCut → List ℕ → Parts
 line_parts part cut line = key_parts part (parts_in_line cut line)
+
+-- no line that is cut so ends at the byte between its fields
+abbrev pub CutsWithin : LineCut → Type 0
+CutsWithin cut.Whole = ⊤
+CutsWithin (cut.Pair d) = (d == line_feed) ≡ false
+CutsWithin (cut.Columns d at) = (d == line_feed) ≡ false
 
 -- no byte is a quote
 abbrev pub IsUnquoted : List ℕ → Type 0
