@@ -35,6 +35,6 @@ pub tallied : {P T : Type 0} (by_plan : Bool) → by_plan ≡ false → T → By
 tallied by_plan asked holds = record { planned = λ plan. absurd (not_both by_plan plan asked); tallied = λ _. holds }
 
 -- what is made of records is of those that the words name
-pub of_records : (opens : Bool → List ℕ → Option (List ℕ) → Type 0) (words : RecordWords) (Makes : Layout → Known → Type 0) (layout : Layout)
-    (known : Known) → AreRecords opens words layout known → Makes layout known → OfRecords opens words Makes
+pub of_records : (opens : Bool → List ℕ → Option (List ℕ) → Type 0) (words : RecordWords) (Makes : Known → Type 0) (layout : Layout)
+    (known : Known) → AreRecords opens words layout known → Makes known → OfRecords opens words Makes
 of_records opens words Makes layout known records made = record { layout = layout; known = known; records = records; made = made }
