@@ -5,8 +5,9 @@ ghost use Rattle.std.specs.Prelude.{◌≡◌, None, false, ⊤};
 
 use crate::fixtures::assert_same;
 use heavy::{
-    Comparison, Layout, Method, Output, ReadAt, ReportOptions, RowOptions, Share, SourceRecords, ToolError,
-    Tree, condense_files, confirm_files, report_files, summarise_files, summary_bytes, table_files,
+    Comparison, Layout, Method, Output, ReadAt, ReportOptions, RowOptions, Share, SourceRecords,
+    ToolError, Tree, condense_files, confirm_files, report_files, summarise_files, summary_bytes,
+    table_files,
 };
 use std::io::{self, Error, ErrorKind, Read};
 use std::process::Abort;
@@ -194,15 +195,7 @@ fn condensed<F: ReadAt + Sync>(
 ) -> Result<Vec<u8>, ToolError> {
     let (file, mut compared) = (summary_of(rt, bytes), Comparison::new(true));
     let output = Output::plain(0);
-    condense_files(
-        rt,
-        rt.alloc(),
-        &file,
-        2,
-        records,
-        &output,
-        &mut compared,
-    )
+    condense_files(rt, rt.alloc(), &file, 2, records, &output, &mut compared)
 }
 
 /// The summary of `bytes`, confirmed over these records.

@@ -30,9 +30,9 @@ impl Model for RowWriter {
     ghost Value = { Written };
 
     ghost view = { λ rows. record {
-        form = rows.form;
-        names = map (λ name. name.now) rows.names.now;
-        text = unwrap_or (text_written (λ text. Some text.items) rows.writer) [];
+      form = rows.form;
+      names = map (λ name. name.now) rows.names.now;
+      text = unwrap_or (text_written (λ text. Some text.items) rows.writer) [];
     } };
 
     ghost invariant = { λ rows. IsBetweenRows (writer_of rows.form) rows.writer };
@@ -42,9 +42,9 @@ impl RowWriter {
     /// What writes rows after `text`.
     pub(crate) fn after(text: Vec<u8>, form: Form, names: Names) -> RowWriter
         ensures { result ≡ record {
-            form = form;
-            names = map (λ name. name.now) names.now;
-            text = text.items;
+          form = form;
+          names = map (λ name. name.now) names.now;
+          text = text.items;
         } }
     {
         RowWriter {
@@ -70,8 +70,8 @@ impl RowWriter {
     /// Writes a record of `csv` after the others. If there is no memory for it, all is let go.
     fn put(&mut self, alloc: Global, fields: &[&[u8]]) -> Result<(), AllocError>
         ensures { OnOk result (self.new ≡ record self.old {
-            text = self.old.text
-                ++ row_text (writer_of self.old.form) (map (λ field. field.now) fields.now);
+          text = self.old.text
+              ++ row_text (writer_of self.old.form) (map (λ field. field.now) fields.now);
         }) }
     {
         if self.writer.write_fields(fields).is_ok() {

@@ -78,11 +78,7 @@ fn first_row(alloc: Global, row: &Heavy, output: &Output) -> Result<RowWriter, A
 
 /// The rows of condensed records: as those of a report, but that in CSV the first key is in quotes
 /// where it begins with the three bytes of a byte order mark.
-pub fn condensed_text(
-    alloc: Global,
-    rows: &[Heavy],
-    output: &Output,
-) -> Result<Vec<u8>, AllocError>
+pub fn condensed_text(alloc: Global, rows: &[Heavy], output: &Output) -> Result<Vec<u8>, AllocError>
     ensures { IfOk result (λ text. text.items ≡ condensed_in output.now rows.now) }
 {
     let Some((first, rest)) = rows.split_first() else {

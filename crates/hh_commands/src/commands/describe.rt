@@ -52,11 +52,7 @@ fn head_rows(
 }
 
 /// The text of the rows `head`, and of those of names and numbers after them.
-fn with_facts(
-    alloc: Global,
-    head: RowWriter,
-    facts: &[(&[u8], u64)],
-) -> Result<Vec<u8>, AllocError>
+fn with_facts(alloc: Global, head: RowWriter, facts: &[(&[u8], u64)]) -> Result<Vec<u8>, AllocError>
     ensures { IfOk result (λ text. text.items
         ≡ (with_rows head (λ f. fact_fields (f.0.now, f.1)) facts.now).text) }
 {
