@@ -39,20 +39,21 @@ begins_with_mark (a ∷ b ∷ c ∷ rest) = is_bom a b c
 abbrev pub quoted_row_by : ℕ → Entry → List ℕ
 quoted_row_by d e = quoted default_writer e.0 ++ (comma ∷ (pointed d e.1 ++ (line_feed ∷ [])))
 
--- the text of a row of CSV that may stand first: a reader would take a mark off that is not in quotes
-abbrev pub first_row_by : ℕ → Entry → List ℕ
-first_row_by d e = if begins_with_mark e.0 then quoted_row_by d e else row_by d e
+-- whether a reader takes bytes of a key off that stands first: in CSV those of a mark
+abbrev pub is_marked : Form → Bytes → Bool
+is_marked form.Csv x = begins_with_mark x
+is_marked f x = false
 
--- the text of a row that may stand first, in each form
-abbrev pub first_row_in : Form → ℕ → Entry → List ℕ
-first_row_in form.Csv d e = first_row_by d e
-first_row_in f d e = row_in f weight_columns (weight_fields d e)
+-- the text of a row that may stand first
+abbrev pub first_row_in : Output → Entry → List ℕ
+first_row_in output e =
+    if is_marked output.form e.0 then quoted_row_by output.decimals e
+    else row_in output.form weight_columns (weight_fields output.decimals e)
 
 -- such a row, and that of the names before it where it is wanted
 abbrev pub first_row : Output → Entry → Written
 first_row output e =
-    let rows = no_rows output weight_columns in
-    record rows { text = rows.text ++ first_row_in output.form output.decimals e }
+    let rows = no_rows output weight_columns in record rows { text = rows.text ++ first_row_in output e }
 
 -- the text of these rows, of which the first may stand first
 abbrev pub condensed_in : Output → List Entry → List ℕ

@@ -3,7 +3,7 @@
 ghost use Rattle.std.specs.Prelude.{◌≡◌, ◌++◌, false, true, IfOk, IfErr, OnOk};
 ghost use Rattle.std.specs.Io.KnownBytes.{Appends};
 ghost use Rattle.csv.specs.Writing.{default_writer, quoted};
-ghost use Rattle.hh_rows.specs.Rows.{condensed_in, first_row, quoted_row_by, rows_of};
+ghost use Rattle.hh_rows.specs.Rows.{condensed_in, first_row, is_marked, quoted_row_by, rows_of};
 ghost use Rattle.hh_rows.specs.Sinks.{TextNotWritten, failed_by};
 
 use crate::output::{Form, Output};
@@ -27,14 +27,22 @@ pub fn report_text(alloc: Global, rows: &[Heavy]) -> Result<Vec<u8>, AllocError>
     printed_text(alloc, 0, &RowOptions::all(Output::plain(0)), rows)
 }
 
-/// `before`, and a key in quotes after it.
+/// Whether a reader of rows in this `form` takes off the first bytes of a `key` that stands first:
+/// those of a byte order mark that isn't in quotes.
+fn is_marked(form: Form, key: &Key) -> bool
+    ensures { result ≡ is_marked form key.now }
+{
+    form == Form::Csv && key.bytes().starts_with(BYTE_ORDER_MARK)
+}
+
+/// A key in quotes.
 #[tactic(auto, using(crate::proofs::RowFacts::same_escaped))]
-fn with_quoted_key(before: Vec<u8>, key: &Key) -> Result<Vec<u8>, AllocError>
-    ensures { IfOk result (λ text. text.items ≡ before.items ++ quoted default_writer key.now) }
+fn quoted_key(alloc: Global, key: &Key) -> Result<Vec<u8>, AllocError>
+    ensures { IfOk result (λ text. text.items ≡ quoted default_writer key.now) }
 {
     let mut writer = WriterBuilder::new()
         .quote_style(QuoteStyle::Always)
-        .from_writer(before);
+        .from_writer(Vec::new(alloc));
     match writer.write_field(key.bytes()) {
         Ok(()) => {}
         Err(_) => return Err(AllocError),
@@ -54,22 +62,22 @@ fn with_quoted_row(
 ) -> Result<Vec<u8>, AllocError>
     ensures { IfOk result (λ text. text.items ≡ before.items ++ quoted_row_by decimals row.now) }
 {
-    let mut text = with_quoted_key(before, &row.key)?;
+    let mut text = before;
+    text.extend_from_slice(quoted_key(alloc, &row.key)?.as_slice())?;
     text.push(b',')?;
     text.extend_from_slice(pointed(alloc, u128::from(row.weight), decimals)?.as_slice())?;
     text.push(b'\n')?;
     Ok(text)
 }
 
-/// The row of condensed records that may stand first in a text: there a reader of CSV takes off a
-/// byte order mark, unless it is in quotes.
+/// The row of condensed records that may stand first in a text, and that of the names before it.
 fn first_row(alloc: Global, row: &Heavy, output: &Output) -> Result<RowWriter, AllocError>
     ensures { IfOk result (λ rows. rows ≡ first_row output.now row.now) }
 {
     let mut rows = RowWriter::new(alloc, output, WEIGHTS)?;
-    if output.form == Form::Csv && row.key.bytes().starts_with(BYTE_ORDER_MARK) {
+    if is_marked(output.form, &row.key) {
         let text = with_quoted_row(alloc, rows.into_text()?, row, output.decimals)?;
-        return Ok(RowWriter::after(text, Form::Csv, WEIGHTS));
+        return Ok(RowWriter::after(text, output.form, WEIGHTS));
     }
     let weight = pointed(alloc, u128::from(row.weight), output.decimals)?;
     rows.push(alloc, &[row.key.bytes(), weight.as_slice()])?;

@@ -136,14 +136,9 @@ pub fn condense_bounded<R: ReadRecords>(
     ensures refused { IfErr result (CondenseBoundedRefused file.now (R.known records)) }
     ensures early { StopsAtHead 1 file.now result }
 {
+    let output = Output::plain(decimals);
     let mut compared = Comparison::new(true);
-    condense_bytes_from(
-        alloc,
-        file,
-        records,
-        &Output::plain(decimals),
-        &mut compared,
-    )
+    condense_bytes_from(alloc, file, records, &output, &mut compared)
 }
 
 /// The total of a text's records, and their keys above p/q of it, of which k counters miss none.

@@ -9,7 +9,7 @@ pub returns-clause-rows : goal.returns-clause-rows
 returns-clause-rows g c =
     condenses_bounded (λ v. v.items) c.args.file.now (g.R.ReadRecords.known c.args.records) c.new-compared.result.refuses
     (ap (λ (n : Comparison). n.refuses) c.new-compared.ensures) c.args.decimals
-    c.condense_bytes_from.new.compared.outside c.condense_bytes_from.result (rw c.plain.ensures at c.condense_bytes_from.ensures.rows)
+    c.condense_bytes_from.new.compared.outside c.condense_bytes_from.result (rw c.plain-output.ensures at c.condense_bytes_from.ensures.rows)
     c.condense_bytes_from.ensures.bounds
 
 pub returns-clause-refused : goal.returns-clause-refused
