@@ -81,7 +81,7 @@ impl RowWriter {
         Err(AllocError)
     }
 
-    /// Writes `fields` as a row after the others.
+    /// Writes `fields`, as many as there are names, as a row after the others.
     pub fn push(&mut self, alloc: Global, fields: &[&[u8]]) -> Result<(), AllocError>
         ensures { OnOk result (self.new
             ≡ with_row self.old (map (λ field. field.now) fields.now)) }
