@@ -47,7 +47,7 @@ fn head_rows(
 {
     let mut rows = RowWriter::new(alloc, output, VALUES)?;
     push_fact(alloc, &mut rows, b"version", version)?;
-    rows.push(alloc, &[b"kind", kind])?;
+    rows.push(alloc, &[b"kind".as_slice(), kind])?;
     Ok(rows)
 }
 
