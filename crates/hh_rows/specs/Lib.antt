@@ -5,4 +5,3 @@ pub mod Printed
 pub mod Rows
 pub mod Sinks
 pub mod Thresholds
-pub mod Writers

@@ -1,8 +1,9 @@
 -- Rows in each form.
-use Rattle.std.specs.Prelude.{ℕ, false, List, [], ◌∷◌, ◌++◌, if◌then◌else◌}
+use Rattle.std.specs.Prelude.{◌≡◌, ℕ, false, List, [], ◌∷◌, ◌++◌, if◌then◌else◌}
 use Rattle.std.specs.List.{flat_map}
-use Rattle.csv.specs.Writing.{default_writer, row_text, with_delimiter, with_style}
+use Rattle.csv.specs.Writing.{default_writer, fields_written, has_written, row_text, with_delimiter, with_style, writer_setup}
 use Rattle.csv.specs.declared.writer.QuoteStyle.TheVariants as style
+use Rattle.csv.specs.declared.writer.Writer.{Writer}
 use Rattle.csv.specs.declared.writer.WriterBuilder.{WriterBuilder}
 use Rattle.hh_rows.specs.Json.{object_text}
 use Rattle.hh_rows.specs.declared.output.Form.{Form}
@@ -18,6 +19,10 @@ abbrev pub writer_of : Form → WriterBuilder
 writer_of form.Csv = default_writer
 writer_of form.Tsv = with_delimiter default_writer 9
 writer_of form.Json = with_style default_writer style.Never
+
+-- a writer of csv with these settings is between two records
+abbrev pub IsBetweenRows : {W : Type 0} → WriterBuilder → Writer W → Type 0
+IsBetweenRows builder w = (fields_written w ≡ 0) × (has_written w ≡ false) × (writer_setup w ≡ builder)
 
 -- the fields that csv writes for a row of columns with these names: in JSON the object alone
 abbrev pub fields_in : Form → List (List ℕ) → List (List ℕ) → List (List ℕ)

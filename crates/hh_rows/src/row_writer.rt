@@ -24,8 +24,7 @@ pub struct RowWriter {
 impl Model for RowWriter {
     ghost use Rattle.std.specs.Prelude.{Some, [], map, unwrap_or};
     ghost use Rattle.csv.specs.Writing.{text_written};
-    ghost use Rattle.hh_rows.specs.Outputs.{Written, writer_of};
-    ghost use Rattle.hh_rows.specs.Writers.{IsBetweenRows};
+    ghost use Rattle.hh_rows.specs.Outputs.{IsBetweenRows, Written, writer_of};
 
     ghost Value = { Written };
 
