@@ -25,7 +25,8 @@ pub use hh_pieces::{GrowingFile, ReadAt, Records, SourceRecords, read_stream};
 pub use hh_pool::MAX_WORKERS;
 pub use hh_records::{Column, Layout, LayoutWords, layout_of};
 pub use hh_rows::{
-    Out, ReportOptions, RowOptions, Share, Sink, SinkFault, Tree, put, report_text, write_report,
+    Form, Out, Output, ReportOptions, RowOptions, Share, Sink, SinkFault, Tree, put, report_text,
+    write_report,
 };
 pub use hh_saved::Place;
 pub use hh_stream::KeyHash;

@@ -35,6 +35,6 @@ pub read_again : {P T : Type 0} (once : Bool) → once ≡ false → T → IfOnc
 read_again once reads holds = record { once = λ is. absurd (not_both once is reads); again = λ _. holds }
 
 -- what is made of records is of those that the words name
-pub of_records : (opens : Bool → List ℕ → Option (List ℕ) → Type 0) (words : RecordWords) (Makes : Layout → Known → Type 0) (layout : Layout)
-    (known : Known) → AreRecords opens words layout known → Makes layout known → OfRecords opens words Makes
+pub of_records : (opens : Bool → List ℕ → Option (List ℕ) → Type 0) (words : RecordWords) (Makes : Known → Type 0) (layout : Layout)
+    (known : Known) → AreRecords opens words layout known → Makes known → OfRecords opens words Makes
 of_records opens words Makes layout known records made = record { layout = layout; known = known; records = records; made = made }

@@ -1,6 +1,6 @@
 -- What answers a request, by the bytes that are given of the files that it names.
 use Rattle.std.specs.Io.KnownBytes.{Appends}
-use Rattle.std.specs.Prelude.{ℕ, ◌≡◌, ◌⊎◌, ◌||◌, ⊤, Bool, true, false, not, List, Option, Some, None, Ok, map}
+use Rattle.std.specs.Prelude.{ℕ, ◌≡◌, ◌⊎◌, ◌||◌, ⊤, Bool, true, false, not, List, Option, Some, Ok, map}
 use Rattle.hh_summaries.specs.Counters.{sketch_of}
 use Rattle.hh_countmin.specs.Family.{drawn_family}
 use Rattle.hh_countmin.specs.Table.{table_of}
@@ -10,14 +10,15 @@ use Rattle.hh_saved.specs.declared.saved.Saved.{Saved}
 use Rattle.hh_saved.specs.declared.saved.Saved.TheVariants.{Cells, Counters}
 use Rattle.hh_records.specs.Streams.{Known}
 use Rattle.hh_records.specs.declared.layout.Layout.{Layout}
+use Rattle.hh_rows.specs.declared.output.Output.{Output}
 use Rattle.hh_rows.specs.declared.printed.RowOptions.{RowOptions}
 use Rattle.hh_rows.specs.declared.threshold.Share.{Share}
 use Rattle.hh_commands.specs.Ask.{answers_in}
 use Rattle.hh_commands.specs.Bounds.{ComparesBounds}
-use Rattle.hh_commands.specs.Condense.{CondensesRows}
+use Rattle.hh_commands.specs.Condense.{CondensesIn}
 use Rattle.hh_commands.specs.Confirm.{ConfirmsPrinted}
 use Rattle.hh_commands.specs.Describe.{description}
-use Rattle.hh_commands.specs.List.{ListsRows}
+use Rattle.hh_commands.specs.List.{ListsIn}
 use Rattle.hh_commands.specs.Merge.{merged_files}
 use Rattle.hh_commands.specs.Records.{SavesStream}
 use Rattle.hh_commands.specs.Summarise.{word_of}
@@ -35,15 +36,14 @@ use Rattle.heavy_arguments.specs.declared.verbs.Verb.TheVariants as verb
 use Rattle.heavy_requests.specs.Request.{are_plain, first_file}
 use Rattle.heavy_requests.specs.declared.request.Asked.{Asked}
 use Rattle.heavy_requests.specs.declared.request.RecordWords.{RecordWords}
-use Rattle.heavy_answers.specs.Columns.{bound_columns, bytes_in, report_columns, value_columns, weight_columns}
 use Rattle.heavy_answers.specs.Inputs.{AreRecords}
 
 -- of the records that the words name this is made
-pub record OfRecords (opens : Bool → List ℕ → Option (List ℕ) → Type 0) (words : RecordWords) (Makes : Layout → Known → Type 0) : Type 0 where
+pub record OfRecords (opens : Bool → List ℕ → Option (List ℕ) → Type 0) (words : RecordWords) (Makes : Known → Type 0) : Type 0 where
   pub layout : Layout
   pub known : Known
   pub records : AreRecords opens words layout known
-  pub made : Makes layout known
+  pub made : Makes known
 
 -- the bytes save the summary of the records: by one worker that of the definition, and by several one that is as good
 pub record SavesByWorkers (k workers : ℕ) (known : Known) (bytes : List ℕ) : Type 0 where
@@ -63,9 +63,9 @@ pub record MakesMerge (gives : List ℕ → Option (List ℕ) → Type 0) (names
   pub spelled : Spells version.Two bytes saved
 
 -- the rows are the records, condensed by a saved file
-abbrev pub Condenses : List ℕ → Bool → Option Outside → Layout → Known → List ℕ → Type 0
-Condenses file refuses outside layout known bytes =
-    CondensesRows layout.decimals file known bytes × ComparesBounds refuses bounds.High file known outside
+abbrev pub Condenses : List ℕ → Output → Bool → Option Outside → Known → List ℕ → Type 0
+Condenses file output refuses outside known bytes =
+    CondensesIn output file known bytes × ComparesBounds refuses bounds.High file known outside
 
 -- the rows are the heavy keys of a saved file in the records
 abbrev pub Confirms : List ℕ → Share → RowOptions → Bool → Option Outside → Known → List ℕ → Type 0
@@ -73,13 +73,13 @@ Confirms file share rows refuses outside known bytes =
     ConfirmsPrinted rows share file known bytes × ComparesBounds refuses bounds.Both file known outside
 
 -- a pass by this saved file makes this of the records, where a key outside its bounds may refuse
-abbrev pub MakesInOnePass : Pass → Asked → List ℕ → Bool → Option Outside → Layout → Known → List ℕ → Type 0
-MakesInOnePass pass.Summarise asked file refuses outside layout known bytes =
+abbrev pub MakesInOnePass : Pass → Asked → List ℕ → Bool → Option Outside → Known → List ℕ → Type 0
+MakesInOnePass pass.Summarise asked file refuses outside known bytes =
     SavesByWorkers asked.options.k asked.options.workers known bytes
-MakesInOnePass pass.Table asked file refuses outside layout known bytes =
+MakesInOnePass pass.Table asked file refuses outside known bytes =
     SavesTable asked.options.width asked.options.depth asked.options.seed known bytes
-MakesInOnePass pass.Condense asked file refuses outside layout known bytes = Condenses file refuses outside layout known bytes
-MakesInOnePass pass.Confirm asked file refuses outside layout known bytes =
+MakesInOnePass pass.Condense asked file refuses outside known bytes = Condenses file asked.rows.output refuses outside known bytes
+MakesInOnePass pass.Confirm asked file refuses outside known bytes =
     Confirms file asked.options.threshold asked.rows refuses outside known bytes
 
 -- where records are read once the first holds, and else the second
@@ -113,42 +113,28 @@ abbrev pub MakesPass : (List ℕ → Option (List ℕ) → Type 0) → (Bool →
     → Bool → Option Outside → List ℕ → Type 0
 MakesPass gives opens pass asked refuses outside bytes =
     (file : List ℕ) × IsFileOf gives pass asked file
-    × OfRecords opens asked.records (λ layout known. MakesInOnePass pass asked file refuses outside layout known bytes)
+    × OfRecords opens asked.records (λ known. MakesInOnePass pass asked file refuses outside known bytes)
 
--- the bytes are what a command makes that does this, rows as CSV
+-- the bytes are what a command makes that does this
 abbrev pub Answers : (List ℕ → Option (List ℕ) → Type 0) → (Bool → List ℕ → Option (List ℕ) → Type 0) → Verb → Asked
     → Bool → Option Outside → List ℕ → Type 0
-Answers gives opens verb.Report asked refuses outside bytes = OfRecords opens asked.records (λ _ known. PrintsReport asked known bytes)
+Answers gives opens verb.Report asked refuses outside bytes = OfRecords opens asked.records (λ known. PrintsReport asked known bytes)
 Answers gives opens verb.Top asked refuses outside bytes =
-    OfRecords opens asked.records (λ _ known. PrintsTop asked.rows asked.greatest known bytes)
+    OfRecords opens asked.records (λ known. PrintsTop asked.rows asked.greatest known bytes)
 Answers gives opens (verb.Pass pass) asked refuses outside bytes = MakesPass gives opens pass asked refuses outside bytes
 Answers gives opens verb.Merge asked refuses outside bytes = MakesMerge gives (map (λ w. w.items) asked.files.items) bytes
 Answers gives opens verb.Ask asked refuses outside bytes =
-    OfSaved gives asked (λ file. answers_in asked.rows.decimals file (map (λ w. w.items) asked.keys.items) ≡ Ok bytes)
-Answers gives opens verb.List asked refuses outside bytes = OfSaved gives asked (λ file. ListsRows asked.rows.decimals file bytes)
-Answers gives opens verb.Describe asked refuses outside bytes = OfSaved gives asked (λ file. description file ≡ Ok bytes)
+    OfSaved gives asked (λ file. answers_in asked.rows.output file (map (λ w. w.items) asked.keys.items) ≡ Ok bytes)
+Answers gives opens verb.List asked refuses outside bytes = OfSaved gives asked (λ file. ListsIn asked.rows.output file bytes)
+Answers gives opens verb.Describe asked refuses outside bytes = OfSaved gives asked (λ file. description asked.rows.output file ≡ Ok bytes)
 
 -- whether a key whose weight contradicts a saved summary refuses the records: all but plain ones on standard input
 abbrev pub refuses_contradictions : RecordWords → Bool
 refuses_contradictions words = not (are_plain words)
 
--- the names of the columns of the rows that a command prints which does this; a saved file has none
-abbrev pub columns_of : Verb → RowOptions → Option (List (List ℕ))
-columns_of verb.Report rows = Some (report_columns rows)
-columns_of verb.Top rows = Some (report_columns rows)
-columns_of (verb.Pass pass.Summarise) rows = None
-columns_of (verb.Pass pass.Table) rows = None
-columns_of (verb.Pass pass.Condense) rows = Some weight_columns
-columns_of (verb.Pass pass.Confirm) rows = Some (report_columns rows)
-columns_of verb.Merge rows = None
-columns_of verb.Ask rows = Some bound_columns
-columns_of verb.List rows = Some bound_columns
-columns_of verb.Describe rows = Some value_columns
-
--- what was asked for on the command line was answered: what answers it was written in the form that is asked for, and nothing
--- else
+-- what was asked for on the command line was answered: what answers it was written, and nothing else
 abbrev pub IsAnswered : (List ℕ → Option (List ℕ) → Type 0) → (Bool → List ℕ → Option (List ℕ) → Type 0) → Asked
     → Option Outside → Option (List ℕ) → Option (List ℕ) → Type 0
 IsAnswered gives opens asked outside old new =
     (bytes : List ℕ) × Answers gives opens asked.verb asked (refuses_contradictions asked.records) outside bytes
-    × Appends old new (bytes_in asked.output (columns_of asked.verb asked.rows) bytes)
+    × Appends old new bytes

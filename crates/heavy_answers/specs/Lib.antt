@@ -1,4 +1,3 @@
 pub mod Answers
-pub mod Columns
 pub mod Inputs
 pub mod Refusals

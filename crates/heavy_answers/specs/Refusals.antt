@@ -33,8 +33,7 @@ use Rattle.heavy_arguments.specs.declared.verbs.Verb.{Verb}
 use Rattle.heavy_arguments.specs.declared.verbs.Verb.TheVariants as verb
 use Rattle.heavy_requests.specs.Request.{bytes_of, first_file}
 use Rattle.heavy_requests.specs.declared.request.Asked.{Asked}
-use Rattle.heavy_answers.specs.Answers.{Answers, IsFileOf, OfRecords, columns_of, refuses_contradictions}
-use Rattle.heavy_answers.specs.Columns.{bytes_in}
+use Rattle.heavy_answers.specs.Answers.{Answers, IsFileOf, OfRecords, refuses_contradictions}
 use Rattle.heavy_answers.specs.Inputs.{AreRecords, standard_name}
 
 -- the number of the input in this place after some saved files
@@ -123,7 +122,7 @@ abbrev pub TopFails : (Bool → List ℕ → Option (List ℕ) → Type 0) → (
 TopFails opens unopened asked e =
     OpenRefused unopened asked e ⊎ ((in_range asked.options.workers max_workers ≡ false) × (e ≡ tool.BadWorkers))
     ⊎ ((in_range asked.options.workers max_workers ≡ true) × IsUnkept e)
-    ⊎ OfRecords opens asked.records (λ _ known. TopFilesRefused (record {
+    ⊎ OfRecords opens asked.records (λ known. TopFilesRefused (record {
       n = asked.greatest;
       workers = asked.options.workers;
       memory = bytes_of asked.memory;
@@ -159,7 +158,7 @@ ReportRefused false asked known e = StartRefused asked.options known e
 -- the report is refused: it can't begin, or the library refuses it
 abbrev pub ReportFails : (Bool → List ℕ → Option (List ℕ) → Type 0) → (List ℕ → ℕ → ToolError → Type 0) → Asked → ToolError → Type 0
 ReportFails opens unopened asked e =
-    BeginRefused unopened asked e ⊎ OfRecords opens asked.records (λ _ known. ReportRefused asked.once asked known e)
+    BeginRefused unopened asked e ⊎ OfRecords opens asked.records (λ known. ReportRefused asked.once asked known e)
 
 -- a command that does this is refused: by its options, by a file that can't be read, or as the library refuses what is asked for
 abbrev pub Fails : (List ℕ → Option (List ℕ) → Type 0) → (Bool → List ℕ → Option (List ℕ) → Type 0)
@@ -170,15 +169,14 @@ Fails gives opens unopened (verb.Pass pass) asked refuses e = PassFails gives op
 Fails gives opens unopened verb.Merge asked refuses e =
     FilesFail gives (map (λ w. w.items) asked.files.items) (λ files. Refuses (merged_files files)) e
 Fails gives opens unopened verb.Ask asked refuses e =
-    SavedFails gives asked (λ file. Refuses (answers_in asked.rows.decimals file (map (λ w. w.items) asked.keys.items))) e
+    SavedFails gives asked (λ file. Refuses (answers_in asked.rows.output file (map (λ w. w.items) asked.keys.items))) e
 Fails gives opens unopened verb.List asked refuses e = SavedFails gives asked SummaryRefused e
-Fails gives opens unopened verb.Describe asked refuses e = SavedFails gives asked (λ file. Refuses (description file)) e
+Fails gives opens unopened verb.Describe asked refuses e = SavedFails gives asked (λ file. Refuses (description asked.rows.output file)) e
 
--- what was asked for on the command line is refused. Nothing is written, but where the answer could not be: then a part of it.
--- There may be no memory for the form that is asked for
+-- what was asked for on the command line is refused. Nothing is written, but where the answer could not be: then a part of it
 abbrev pub IsRefused : (List ℕ → Option (List ℕ) → Type 0) → (Bool → List ℕ → Option (List ℕ) → Type 0)
     → (List ℕ → ℕ → ToolError → Type 0) → Asked → Option Outside → Option (List ℕ) → Option (List ℕ) → ToolError → Type 0
 IsRefused gives opens unopened asked outside old new e =
-    ((Fails gives opens unopened asked.verb asked (refuses_contradictions asked.records) e ⊎ (e ≡ tool.Memory)) × Keeps old new)
+    (Fails gives opens unopened asked.verb asked (refuses_contradictions asked.records) e × Keeps old new)
     ⊎ ((bytes : List ℕ) × (n : ℕ) × Answers gives opens asked.verb asked (refuses_contradictions asked.records) outside bytes
-    × TakesFirst old new (bytes_in asked.output (columns_of asked.verb asked.rows) bytes) n × (e ≡ tool.WriteFault n))
+    × TakesFirst old new bytes n × (e ≡ tool.WriteFault n))

@@ -1,20 +1,19 @@
 //! The calls of the libraries that answer what is asked for.
 
-ghost use Rattle.std.specs.Prelude.{◌≡◌, ◌⊎◌, false, map, option_map, true, IfErr, IfOk, OnOk};
+ghost use Rattle.std.specs.Prelude.{◌≡◌, ◌⊎◌, false, map, true, IfErr, IfOk, OnOk};
 ghost use Rattle.hh_commands.specs.Files.{Refuses};
 ghost use Rattle.hh_commands.specs.Merge.{merged_files};
 ghost use Rattle.heavy_answers.specs.Answers.{Answers, IsAnswered, MakesMerge, OfRecords};
-ghost use Rattle.heavy_answers.specs.Answers.{PrintsReport, columns_of};
+ghost use Rattle.heavy_answers.specs.Answers.{PrintsReport};
 ghost use Rattle.heavy_answers.specs.Refusals.{Fails, FilesFail, IsRefused, OpenRefused};
 ghost use Rattle.heavy_answers.specs.Refusals.{ReportFails, ReportRefused, TopFails};
 ghost use Rattle.hh_files.specs.Report.{AreOptions, PrintsRows};
 ghost use Rattle.hh_files.specs.TopFiles.{PrintsTop};
 
-use crate::columns::{BOUNDS, Names, VALUES, WEIGHTS, bytes_in, report_columns};
 use crate::host::Host;
 use crate::opening::{into_kept, open, open_records, saved_file};
 use crate::single_pass::in_one_pass;
-use heavy_arguments::{Pass, Verb};
+use heavy_arguments::Verb;
 use heavy_host::read_files;
 use heavy_requests::Asked;
 use hh_commands::{Comparison, ask_rows, describe_file, list_rows, merge_bytes};
@@ -51,7 +50,7 @@ fn top<T: Threads + Wait + Sync, H: Host>(
     asked: &Asked,
 ) -> Result<Vec<u8>, ToolError>
     ensures made { IfOk result (λ bytes. OfRecords (H.opens host.now) asked.now.records
-        (λ _ known. PrintsTop asked.now.rows asked.now.greatest known bytes.items)) }
+        (λ known. PrintsTop asked.now.rows asked.now.greatest known bytes.items)) }
     ensures refused { IfErr result
         (TopFails (H.opens host.now) (H.unopened host.now) asked.now) }
 {
@@ -83,11 +82,11 @@ fn report_in_turn<T: Threads + Wait + Sync, H: Host>(
     asked: &Asked,
 ) -> Result<Vec<u8>, ToolError>
     ensures made { IfOk result (λ bytes. OfRecords (H.opens host.now) asked.now.records
-        (λ _ known. AreOptions asked.now.options
+        (λ known. AreOptions asked.now.options
         × PrintsRows asked.now.rows asked.now.options known bytes.items)) }
     ensures refused { IfErr result (λ fault. OpenRefused (H.unopened host.now) asked.now fault
         ⊎ OfRecords (H.opens host.now) asked.now.records
-        (λ _ known. ReportRefused asked.now.once asked.now known fault)) }
+        (λ known. ReportRefused asked.now.once asked.now known fault)) }
 {
     let records = open_records(host, asked)?;
     let (alloc, options, rows) = (host.alloc(), &asked.options, &asked.rows);
@@ -108,7 +107,7 @@ fn report<T: Threads + Wait + Sync, H: Host>(
     asked: &Asked,
 ) -> Result<Vec<u8>, ToolError>
     ensures made { IfOk result (λ bytes. OfRecords (H.opens host.now) asked.now.records
-        (λ _ known. PrintsReport asked.now known bytes.items)) }
+        (λ known. PrintsReport asked.now known bytes.items)) }
     ensures refused { IfErr result
         (ReportFails (H.opens host.now) (H.unopened host.now) asked.now) }
 {
@@ -123,8 +122,8 @@ fn report<T: Threads + Wait + Sync, H: Host>(
     Ok(bytes)
 }
 
-/// Makes the whole output of what is `asked` for, as CSV where it is rows. It stores in `compared`
-/// where a saved summary and the records differ.
+/// Makes the whole output of what is `asked` for. It stores in `compared` where a saved summary and
+/// the records differ.
 fn bytes_of<T: Threads + Wait + Sync, H: Host>(
     threads: &T,
     host: &H,
@@ -136,7 +135,7 @@ fn bytes_of<T: Threads + Wait + Sync, H: Host>(
     ensures refused { IfErr result (Fails (H.gives host.now) (H.opens host.now)
         (H.unopened host.now) asked.now.verb asked.now compared.old.refuses) }
 {
-    let alloc = host.alloc();
+    let (alloc, output) = (host.alloc(), &asked.rows.output);
     match asked.verb {
         Verb::Report => report(threads, host, asked),
         Verb::Top => top(threads, host, asked),
@@ -144,24 +143,10 @@ fn bytes_of<T: Threads + Wait + Sync, H: Host>(
         Verb::Merge => merged(host, &asked.files),
         Verb::Ask => {
             let file = saved_file(host, asked)?;
-            ask_rows(alloc, &file, &asked.keys, asked.rows.decimals)
+            ask_rows(alloc, &file, &asked.keys, output)
         }
-        Verb::List => list_rows(alloc, &saved_file(host, asked)?, asked.rows.decimals),
-        Verb::Describe => describe_file(alloc, &saved_file(host, asked)?),
-    }
-}
-
-/// Gives the names of the columns of the rows that are `asked` for. A saved file has none.
-fn columns_of(asked: &Asked) -> Option<Names>
-    ensures { option_map (λ names. map (λ name. name.now) names.now) result
-        ≡ columns_of asked.now.verb asked.now.rows }
-{
-    match asked.verb {
-        Verb::Pass(Pass::Summarise | Pass::Table) | Verb::Merge => None,
-        Verb::Ask | Verb::List => Some(BOUNDS),
-        Verb::Describe => Some(VALUES),
-        Verb::Pass(Pass::Condense) => Some(WEIGHTS),
-        Verb::Report | Verb::Top | Verb::Pass(Pass::Confirm) => Some(report_columns(&asked.rows)),
+        Verb::List => list_rows(alloc, &saved_file(host, asked)?, output),
+        Verb::Describe => describe_file(alloc, &saved_file(host, asked)?, output),
     }
 }
 
@@ -187,7 +172,6 @@ pub fn answer<T: Threads + Wait + Sync, H: Host, S: Sink>(
 {
     compared.refuses = !asked.records.are_plain();
     let bytes = bytes_of(threads, host, asked, compared)?;
-    let bytes = bytes_in(host.alloc(), &asked.output, columns_of(asked), bytes)?;
     put(sink, &bytes)?;
     Ok(())
 }

@@ -3,7 +3,6 @@
 #![tactic(auto)]
 
 mod answering;
-mod columns;
 mod host;
 mod opening;
 mod single_pass;

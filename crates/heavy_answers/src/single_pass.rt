@@ -58,13 +58,13 @@ fn answer_by_workers<T: Threads + Wait + Sync, F: ReadAt + Sync>(
     compared: &mut Comparison,
 ) -> Result<Vec<u8>, ToolError>
     ensures made { IfOk result (λ bytes. MakesInOnePass pass asked.now file.now
-        compared.old.refuses compared.new.outside records.entry.layout.now
+        compared.old.refuses compared.new.outside
         (sources_known F.bytes records.entry) bytes.items) }
     ensures workers { OnOk result (in_range asked.now.options.workers max_workers ≡ true) }
     ensures refused { IfErr result (FailsInOnePass pass asked.now file.now compared.old.refuses
         (sources_known F.bytes records.entry)) }
 {
-    let options = &asked.options;
+    let (options, rows) = (&asked.options, &asked.rows);
     let workers = options.workers;
     match pass {
         Pass::Summarise => summarise_files(threads, alloc, options.k, workers, records),
@@ -72,9 +72,12 @@ fn answer_by_workers<T: Threads + Wait + Sync, F: ReadAt + Sync>(
             let (width, depth, seed) = (options.width, options.depth, options.seed);
             table_files(threads, alloc, width, depth, seed, workers, records)
         }
-        Pass::Condense => condense_files(threads, alloc, file, workers, records, compared),
+        Pass::Condense => {
+            let output = &rows.output;
+            condense_files(threads, alloc, file, workers, records, output, compared)
+        }
         Pass::Confirm => {
-            let (share, rows) = (&options.threshold, &asked.rows);
+            let share = &options.threshold;
             confirm_files(
                 threads, alloc, file, share, rows, workers, records, compared,
             )
@@ -93,27 +96,21 @@ fn answer_by_one_thread<R: Read + Drop>(
 ) -> Result<Vec<u8>, ToolError>
     requires workers { in_range asked.now.options.workers max_workers ≡ true }
     ensures made { IfOk result (λ bytes. MakesInOnePass pass asked.now file.now
-        compared.old.refuses compared.new.outside records.layout
+        compared.old.refuses compared.new.outside
         (records_known R.remaining records) bytes.items) }
     ensures refused { IfErr result (FailsInOnePass pass asked.now file.now compared.old.refuses
         (records_known R.remaining records)) }
 {
-    let options = &asked.options;
+    let (options, rows) = (&asked.options, &asked.rows);
     match pass {
         Pass::Summarise => summary_bytes_from(alloc, options.k, records),
         Pass::Table => {
             table_bytes_from(alloc, options.width, options.depth, options.seed, records)
         }
-        Pass::Condense => condense_bytes_from(alloc, file, records, compared),
+        Pass::Condense => condense_bytes_from(alloc, file, records, &rows.output, compared),
         Pass::Confirm => {
-            confirm_rows(
-                alloc,
-                file,
-                &options.threshold,
-                &asked.rows,
-                records,
-                compared,
-            )
+            let share = &options.threshold;
+            confirm_rows(alloc, file, share, rows, records, compared)
         }
     }
 }

@@ -17,8 +17,8 @@ ghost use Rattle.hh_pieces.specs.Sources.{sources_known};
 ghost use Rattle.hh_records.specs.Layouts.{delimited};
 ghost use Rattle.hh_records.specs.Streams.{ReadsAs, text_known};
 ghost use Rattle.csv.specs.Writing.{comma};
-ghost use Rattle.hh_rows.specs.Rows.{rows_of};
-ghost use Rattle.hh_rows.specs.Outputs.{plain_output, rows_in};
+ghost use Rattle.hh_rows.specs.Outputs.{plain_output};
+ghost use Rattle.hh_rows.specs.Printed.{all_rows, printed_rows};
 ghost use Rattle.hh_rows.specs.declared.output.Form.TheVariants as form;
 ghost use Rattle.hh_pieces.specs.Pieces.{ends_outside};
 ghost use Rattle.hh_workers.specs.PlanTexts.{SpellsTree};
@@ -38,7 +38,7 @@ use hh_library::{add_items, summary_bytes};
 use hh_pieces::{ReadAt, SourceRecords, ends_outside_quotes, read_stream};
 use hh_pool::{OpenGate, Options, Plan, RunError, analyse};
 use hh_records::{Column, Format};
-use hh_rows::{Form, Output, converted, report_text};
+use hh_rows::{Form, Output, ReportOptions, RowOptions, Sink, printed_text};
 use hh_saved::{Saved, read};
 use hh_shared::{SharedSums, SumSeat};
 use hh_stream::{Cutting, Key, PushRefused, Stream};
@@ -135,15 +135,16 @@ pub fn total_of_records<R: Read + Drop>(alloc: Global, reader: R) -> Result<u64,
 }
 
 /// The rows of a report, as JSON.
-pub fn rows_as_json(alloc: Global, names: &[&[u8]], rows: &[Heavy]) -> Result<Vec<u8>, AllocError>
-    ensures { IfOk result (λ text. text.items ≡ rows_in (record plain_output { form = form.Json })
-        (map (λ name. name.now) names.now) (rows_of rows.now)) }
+pub fn rows_as_json(alloc: Global, rows: &[Heavy]) -> Result<Vec<u8>, AllocError>
+    ensures { IfOk result (λ text. text.items
+        ≡ printed_rows 0 (all_rows (record (plain_output 0) { form = form.Json })) rows.now) }
 {
     let output = Output {
         form: Form::Json,
         has_names: false,
+        decimals: 0,
     };
-    converted(alloc, &output, names, report_text(alloc, rows)?)
+    printed_text(alloc, 0, &RowOptions::all(output), rows)
 }
 
 /// Whether a line feed after a text of records ends a record.
@@ -191,9 +192,9 @@ pub fn heavy_keys<R: Threads + Wait + Sync>(
 
 /// The rows of what is in a saved file.
 pub fn facts_of(alloc: Global, file: &[u8]) -> Result<Vec<u8>, ToolError>
-    ensures { IfOk result (λ rows. description file.now ≡ Ok rows.items) }
+    ensures { IfOk result (λ rows. description (plain_output 0) file.now ≡ Ok rows.items) }
 {
-    describe_file(alloc, file)
+    describe_file(alloc, file, &Output::plain(0))
 }
 
 /// The saved summary of a reader's records, with 100 counters.

@@ -145,7 +145,8 @@ pub(crate) fn print_few_keys(rt: &HostRuntime, asked: &Asked, rows: u64, has_rec
     if asked.verb != Verb::Report {
         return;
     }
-    let has_header = asked.output.has_names && asked.output.form != Form::Json;
+    let output = asked.rows.output;
+    let has_header = output.has_names && output.form != Form::Json;
     let keys = rows.saturating_sub(u64::from(has_header));
     let top = asked.rows.top.unwrap_or(1);
     if keys < top && !has_records {

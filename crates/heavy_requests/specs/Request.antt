@@ -85,12 +85,6 @@ pub record AreOptions (verb : Verb) (found : Found) (options : ReportOptions) : 
   pub depth : IsNumberOf (λ t. t.now) found DEPTH options.depth
   pub seed : IsNumberOf (λ t. t.now) found SEED options.seed
 
--- which rows are printed
-pub record AreRowOptions (found : Found) (rows : RowOptions) : Type 0 where
-  pub top : IsNumberGiven found TOP.name.now rows.top
-  pub share : IsFlag found SHARE.name.now rows.share
-  pub decimals : AreDecimals found rows.decimals
-
 -- the form that a text names: CSV, where it is no other
 abbrev pub NamesForm : Option Text → Form → Type 0
 NamesForm text form.Csv = (text ≢ Some (codes "tsv")) × (text ≢ Some (codes "json"))
@@ -101,6 +95,13 @@ NamesForm text form.Json = text ≡ Some (codes "json")
 pub record IsOutput (found : Found) (output : Output) : Type 0 where
   pub form : NamesForm (first_value found OUTPUT.name.now) output.form
   pub names : IsFlag found NAMES.name.now output.has_names
+  pub decimals : AreDecimals found output.decimals
+
+-- which rows are printed, and how
+pub record AreRowOptions (found : Found) (rows : RowOptions) : Type 0 where
+  pub top : IsNumberGiven found TOP.name.now rows.top
+  pub share : IsFlag found SHARE.name.now rows.share
+  pub output : IsOutput found rows.output
 
 -- whether a flag is given
 abbrev pub IsGiven : Found → Text → Type 0
@@ -154,7 +155,6 @@ pub record AsksFor (name : Text) (found : Found) (asked : Asked) : Type 0 where
   pub once : IsFlag found ONCE.name.now asked.once
   pub memory : IsNumber found MEMORY.name.now (2 ^ 64) (memory_of asked.verb asked.once) asked.memory
   pub rows : AreRowOptions found asked.rows
-  pub output : IsOutput found asked.output
   pub files : map (λ w. w.items) asked.files.items ≡ all_words found SAVED_FILES.name.now
   pub keys : map (λ w. w.items) asked.keys.items ≡ all_words found KEYS.name.now
   pub records : AreRecordWords found asked.records

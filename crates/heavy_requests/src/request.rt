@@ -48,10 +48,8 @@ pub struct Asked {
     /// counters that grow, or that a report by one reading has. A pipe that gives more is kept in a
     /// temporary file.
     pub memory: u64,
-    /// Which rows are printed.
+    /// Which rows are printed, and how.
     pub rows: RowOptions,
-    /// How they are printed.
-    pub output: Output,
     /// The names of saved files.
     pub files: Vec<Vec<u8>>,
     /// The keys that a saved file is asked for. Words are kept as bytes, which need not be UTF-8.
@@ -307,17 +305,6 @@ fn threshold_of(alloc: Global, found: &ArgMatches) -> Result<Share, AllocError>
     }
 }
 
-/// Reads which rows are printed.
-fn rows_of(found: &ArgMatches) -> RowOptions
-    ensures { AreRowOptions (found_of found.now) result }
-{
-    RowOptions {
-        top: TOP.number_given(found),
-        share: SHARE.is_given(found),
-        decimals: DECIMALS.digit(found),
-    }
-}
-
 /// Reads how rows are printed. `clap` takes the three forms' names alone, so that the one that
 /// isn't named here is `csv`.
 fn output_of(found: &ArgMatches) -> Output
@@ -331,6 +318,18 @@ fn output_of(found: &ArgMatches) -> Output
     Output {
         form,
         has_names: NAMES.is_given(found),
+        decimals: DECIMALS.digit(found),
+    }
+}
+
+/// Reads which rows are printed, and how.
+fn rows_of(found: &ArgMatches) -> RowOptions
+    ensures { AreRowOptions (found_of found.now) result }
+{
+    RowOptions {
+        top: TOP.number_given(found),
+        share: SHARE.is_given(found),
+        output: output_of(found),
     }
 }
 
@@ -376,7 +375,6 @@ fn asked_of(alloc: Global, name: &str, found: &ArgMatches) -> Result<Asked, Allo
         greatest: GREATEST.number(found),
         memory: verb.memory(once, found),
         rows: rows_of(found),
-        output: output_of(found),
         files: words(alloc, found, SAVED_FILES.name)?,
         keys: words(alloc, found, KEYS.name)?,
         records: record_words(alloc, found)?,

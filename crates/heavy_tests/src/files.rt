@@ -5,8 +5,9 @@ ghost use Rattle.std.specs.Prelude.{◌≡◌, None, false, ⊤};
 
 use crate::fixtures::assert_same;
 use heavy::{
-    Comparison, Layout, Method, ReadAt, ReportOptions, RowOptions, Share, SourceRecords, ToolError,
-    Tree, condense_files, confirm_files, report_files, summarise_files, summary_bytes, table_files,
+    Comparison, Layout, Method, Output, ReadAt, ReportOptions, RowOptions, Share, SourceRecords,
+    ToolError, Tree, condense_files, confirm_files, report_files, summarise_files, summary_bytes,
+    table_files,
 };
 use std::io::{self, Error, ErrorKind, Read};
 use std::process::Abort;
@@ -110,7 +111,8 @@ fn reported<F: ReadAt + Sync>(
     rt: &(impl Abort + AllocGlobal + Threads + Wait + Sync),
     records: SourceRecords<'_, F>,
 ) -> Result<Vec<u8>, ToolError> {
-    report_files(rt, rt.alloc(), &options(), &RowOptions::plain(), records)
+    let rows = RowOptions::all(Output::plain(0));
+    report_files(rt, rt.alloc(), &options(), &rows, records)
 }
 
 /// Makes the rows of a report of such a file, which is read twice, or the refusal, and tells how
@@ -192,7 +194,8 @@ fn condensed<F: ReadAt + Sync>(
     records: SourceRecords<'_, F>,
 ) -> Result<Vec<u8>, ToolError> {
     let (file, mut compared) = (summary_of(rt, bytes), Comparison::new(true));
-    condense_files(rt, rt.alloc(), &file, 2, records, &mut compared)
+    let output = Output::plain(0);
+    condense_files(rt, rt.alloc(), &file, 2, records, &output, &mut compared)
 }
 
 /// The summary of `bytes`, confirmed over these records.
@@ -202,7 +205,7 @@ fn confirmed<F: ReadAt + Sync>(
     records: SourceRecords<'_, F>,
 ) -> Result<Vec<u8>, ToolError> {
     let (file, mut compared) = (summary_of(rt, bytes), Comparison::new(true));
-    let (share, rows) = (Share::OfCounters, RowOptions::plain());
+    let (share, rows) = (Share::OfCounters, RowOptions::all(Output::plain(0)));
     confirm_files(
         rt,
         rt.alloc(),

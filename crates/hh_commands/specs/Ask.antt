@@ -1,11 +1,11 @@
 -- What a saved file tells of keys.
-use Rattle.std.specs.Prelude.{◌==◌, ◌+◌, nat_le, ℕ, List, [], ◌∷◌, length, map, Option, Some, None, Result, Ok, Err, if◌then◌else◌}
-use Rattle.std.specs.List.{flat_map}
-use Rattle.csv.specs.Writing.{default_writer, row_text}
+use Rattle.std.specs.Prelude.{◌==◌, ◌+◌, nat_le, ℕ, List, [], ◌∷◌, codes, length, map, Option, Some, None, Result, Ok, Err, if◌then◌else◌}
 use Rattle.hh_stream.specs.Weights.{Bytes, max_key_len}
 use Rattle.hh_summaries.specs.Counters.{slack}
 use Rattle.hh_countmin.specs.Table.{estimate_in}
 use Rattle.hh_records.specs.Decimals.{pointed}
+use Rattle.hh_rows.specs.Outputs.{plain_output, rows_in}
+use Rattle.hh_rows.specs.declared.output.Output.{Output}
 use Rattle.hh_saved.specs.declared.saved.Saved.{Saved}
 use Rattle.hh_saved.specs.declared.saved.Saved.TheVariants.{Counters, Cells}
 use Rattle.hh_commands.specs.Bounds.{bounds_of}
@@ -24,17 +24,20 @@ abbrev pub slack_of : Saved → ℕ
 slack_of (Counters s) = slack s.counters s.total s.k
 slack_of (Cells t) = 0
 
--- the text of one row: a key and the two numbers, in units of 10^-d, as csv's default writer writes
--- them, and a line feed
-abbrev pub bounds_row : ℕ → Bytes → ℕ × ℕ → List ℕ
-bounds_row d x bounds = row_text default_writer (x ∷ pointed d bounds.0 ∷ pointed d bounds.1 ∷ [])
+-- the names of the columns of keys and their bounds
+abbrev pub bound_columns : List (List ℕ)
+bound_columns = codes "key" ∷ codes "low" ∷ codes "high" ∷ []
 
--- the row of a key that is asked
-abbrev pub answer_row : ℕ → Saved → Bytes → List ℕ
-answer_row d v x = bounds_row d x (answer_of v x)
+-- the fields of a row: a key and the two numbers, in units of 10^-d
+abbrev pub bounds_fields : ℕ → Bytes → ℕ × ℕ → List (List ℕ)
+bounds_fields d x bounds = x ∷ pointed d bounds.0 ∷ pointed d bounds.1 ∷ []
 
-abbrev pub answer_rows : ℕ → Saved → List Bytes → List ℕ
-answer_rows d v keys = flat_map (answer_row d v) keys
+-- those of a key that is asked
+abbrev pub answer_fields : Output → Saved → Bytes → List (List ℕ)
+answer_fields output v x = bounds_fields output.decimals x (answer_of v x)
+
+abbrev pub answer_rows : Output → Saved → List Bytes → List ℕ
+answer_rows output v keys = rows_in output bound_columns (answer_fields output v) keys
 
 -- what is wrong with key n
 abbrev pub key_fault : ℕ → Bytes → Option ToolError
@@ -62,15 +65,15 @@ asked_value file keys = do
   v ← file_of 1 file
   unless (bad_key 1 keys) v
 
--- the rows of all keys, in units of 10^-d, or the first refusal
-abbrev pub answers_in : ℕ → List ℕ → List Bytes → Result (List ℕ) ToolError
-answers_in d file keys = do
+-- the rows of all keys, or the first refusal
+abbrev pub answers_in : Output → List ℕ → List Bytes → Result (List ℕ) ToolError
+answers_in output file keys = do
   v ← asked_value file keys
-  Ok (answer_rows d v keys)
+  Ok (answer_rows output v keys)
 
--- the rows of all keys, in whole numbers, or the first refusal
+-- the rows as CSV, in whole numbers, or the first refusal
 abbrev pub answers : List ℕ → List Bytes → Result (List ℕ) ToolError
-answers file keys = answers_in 0 file keys
+answers file keys = answers_in (plain_output 0) file keys
 
 -- the two numbers of each key, or the first refusal
 abbrev pub answers_of : List ℕ → List Bytes → Result (List (ℕ × ℕ)) ToolError

@@ -3,7 +3,9 @@ use Rattle.std.specs.Prelude.{◌≡◌, ℕ, Bool, IsTrue, List, Some, Ok, ⊤}
 use Rattle.hh_stream.specs.Weights.{Entry}
 use Rattle.hh_counters.specs.Condensed.{condensed}
 use Rattle.hh_summaries.specs.Counters.{SummaryView}
-use Rattle.hh_rows.specs.Rows.{condensed_by}
+use Rattle.hh_rows.specs.Outputs.{plain_output}
+use Rattle.hh_rows.specs.Rows.{condensed_in}
+use Rattle.hh_rows.specs.declared.output.Output.{Output}
 use Rattle.hh_records.specs.Streams.{Known, ReadsAs}
 use Rattle.hh_commands.specs.Files.{HoldsSummary, RefusedFrom}
 use Rattle.hh_records.specs.Refusals.{RecordsRefused}
@@ -14,12 +16,15 @@ use Rattle.hh_commands.specs.declared.compared.Bounds.TheVariants as bounds
 use Rattle.hh_commands.specs.declared.compared.Comparison.{Comparison}
 use Rattle.hh_commands.specs.declared.compared.Outside.{Outside}
 
--- the file holds a summary, and these are the condensed rows, in units of 10^-d, of the stream that
--- the records are
-abbrev pub CondensesRows : ℕ → List ℕ → Known → List ℕ → Type 0
-CondensesRows d file known rows =
+-- the file holds a summary, and these are the condensed rows of the stream that the records are
+abbrev pub CondensesIn : Output → List ℕ → Known → List ℕ → Type 0
+CondensesIn output file known rows =
     (s : SummaryView) × (xs : List Entry) × HoldsSummary file s × ReadsAs known (Ok xs)
-    × (rows ≡ condensed_by d (condensed s.counters xs))
+    × (rows ≡ condensed_in output (condensed s.counters xs))
+
+-- so it does, with the rows as CSV, in units of 10^-d
+abbrev pub CondensesRows : ℕ → List ℕ → Known → List ℕ → Type 0
+CondensesRows d file known rows = CondensesIn (plain_output d) file known rows
 
 -- what a refusal to condense tells: of the file, of its kind, and of the records
 abbrev pub CondenseRefused : List ℕ → Known → ToolError → Type 0

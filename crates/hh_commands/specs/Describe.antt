@@ -1,10 +1,11 @@
 -- What is in a saved file, in rows of a name and a value.
-use Rattle.std.specs.Prelude.{ℕ, List, [], ◌∷◌, ◌++◌, codes, length, nat_eq, Result, Ok, if◌then◌else◌}
-use Rattle.std.specs.List.{flat_map, starts_with}
+use Rattle.std.specs.Prelude.{ℕ, List, [], ◌∷◌, codes, length, nat_eq, Result, Ok, if◌then◌else◌}
+use Rattle.std.specs.List.{starts_with}
 use Rattle.std.specs.Fmt.{decimal}
-use Rattle.csv.specs.Writing.{default_writer, row_text}
 use Rattle.hh_stream.specs.Weights.{total_of}
 use Rattle.hh_summaries.specs.Counters.{slack}
+use Rattle.hh_rows.specs.Outputs.{Written, no_rows, with_row, with_rows}
+use Rattle.hh_rows.specs.declared.output.Output.{Output}
 use Rattle.hh_saved.specs.declared.saved.Saved.{Saved}
 use Rattle.hh_saved.specs.declared.saved.Saved.TheVariants.{Counters, Cells}
 use Rattle.hh_commands.specs.Files.{file_of, ◌>>=◌}
@@ -14,9 +15,13 @@ use Rattle.hh_faults.specs.declared.error.ToolError.{ToolError}
 abbrev pub Fact : Type 0
 Fact = List ℕ × ℕ
 
--- the row of a name and a number
-abbrev pub fact_row : Fact → List ℕ
-fact_row f = row_text default_writer (f.0 ∷ decimal f.1 ∷ [])
+-- the names of the columns of what is in a saved file
+abbrev pub value_columns : List (List ℕ)
+value_columns = codes "name" ∷ codes "value" ∷ []
+
+-- the fields of the row of a name and a number
+abbrev pub fact_fields : Fact → List (List ℕ)
+fact_fields f = f.0 ∷ decimal f.1 ∷ []
 
 -- the version of a saved file, of which there are two
 abbrev pub version_number : List ℕ → ℕ
@@ -36,14 +41,17 @@ facts_of (Counters s) =
 facts_of (Cells t) =
     (codes "depth", length t.family.rows) ∷ (codes "width", t.width) ∷ (codes "total", t.total) ∷ []
 
+-- the first rows of a file of this version, which holds a value of this kind
+abbrev pub head_rows : Output → ℕ → List ℕ → Written
+head_rows output version kind =
+    with_row (with_row (no_rows output value_columns) (fact_fields (codes "version", version))) (codes "kind" ∷ kind ∷ [])
+
 -- the rows of a file of this version that holds this value
-abbrev pub description_of : ℕ → Saved → List ℕ
-description_of version v =
-    fact_row (codes "version", version)
-    ++ row_text default_writer (codes "kind" ∷ kind_name v ∷ []) ++ flat_map fact_row (facts_of v)
+abbrev pub description_of : Output → ℕ → Saved → List ℕ
+description_of output version v = (with_rows (head_rows output version (kind_name v)) fact_fields (facts_of v)).text
 
 -- the rows of a file, or its refusal
-abbrev pub description : List ℕ → Result (List ℕ) ToolError
-description file = do
+abbrev pub description : Output → List ℕ → Result (List ℕ) ToolError
+description output file = do
   v ← file_of 1 file
-  Ok (description_of (version_number file) v)
+  Ok (description_of output (version_number file) v)

@@ -9,7 +9,7 @@ mod files;
 
 pub use commands::ask::{answer_of, ask_rows, check_key, read_for_keys, slack_of};
 pub use commands::condense::{
-    condense_bytes_from, condensed_counts, condensed_part, condensed_records, condensed_rows,
+    condense_bytes_from, condensed_counts, condensed_part, condensed_rows,
 };
 pub use commands::confirm::{confirm_rows, confirmed_text, rows_above};
 pub use commands::describe::describe_file;

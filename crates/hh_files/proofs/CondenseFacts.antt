@@ -9,8 +9,9 @@ use Rattle.hh_counters.specs.Condensed.{condensed}
 use Rattle.hh_counters.specs.Counting.{Count}
 use Rattle.hh_workers.specs.Workers.{max_workers}
 use Rattle.hh_records.specs.Streams.{Known}
-use Rattle.hh_rows.specs.Rows.{condensed_by}
-use Rattle.hh_commands.specs.Condense.{AboveRefused, CondensesRows}
+use Rattle.hh_rows.specs.Rows.{condensed_in}
+use Rattle.hh_rows.specs.declared.output.Output.{Output}
+use Rattle.hh_commands.specs.Condense.{AboveRefused, CondensesIn}
 use Rattle.hh_commands.specs.Files.{HoldsSummary}
 use Rattle.hh_commands.specs.Records.{CountsRecords, IsCountOf}
 use Rattle.hh_commands.specs.declared.compared.Comparison.{Comparison}
@@ -21,12 +22,12 @@ use Rattle.hh_files.specs.FilePasses.{CondenseFilesRefused}
 module _ (file : List ℕ) (known : Known) (s : SummaryView) (held : HoldsSummary file s) (counts : Count)
     (counted : CountsRecords known (keys_of s.counters) counts) where
   -- the rows of a count are those of the records
-  pub rows_condensed : (d : ℕ) (result : Result (Vec ℕ Global) ToolError)
+  pub rows_condensed : (output : Output) (result : Result (Vec ℕ Global) ToolError)
       → IfOk result (λ text. (xs : List Entry) → IsCountOf (keys_of s.counters) xs counts
-      → text.items ≡ condensed_by d (condensed s.counters xs))
-      → IfOk result (λ text. CondensesRows d file known text.items)
-  rows_condensed d (Ok text) h = let (xs, reads, made) = counted in (s, xs, held, reads, h xs made)
-  rows_condensed d (Err e) h = tt
+      → text.items ≡ condensed_in output (condensed s.counters xs))
+      → IfOk result (λ text. CondensesIn output file known text.items)
+  rows_condensed output (Ok text) h = let (xs, reads, made) = counted in (s, xs, held, reads, h xs made)
+  rows_condensed output (Err e) h = tt
 
   -- a refusal to condense them is one of the files
   condensing_fault : (refuses : Bool) (told : Comparison) (workers : ℕ) → in_range workers max_workers ≡ true

@@ -5,7 +5,7 @@ ghost use Rattle.hh_stream.specs.Ranges.{in_range};
 ghost use Rattle.hh_workers.specs.Workers.{max_workers};
 ghost use Rattle.hh_pieces.specs.Sources.{sources_known};
 ghost use Rattle.hh_commands.specs.Bounds.{ComparesBounds};
-ghost use Rattle.hh_commands.specs.Condense.{CondensesRows, TellsAbove};
+ghost use Rattle.hh_commands.specs.Condense.{CondensesIn, TellsAbove};
 ghost use Rattle.hh_files.specs.FilePasses.{CondenseFilesRefused};
 ghost use Rattle.hh_commands.specs.Files.{StopsAtHead};
 
@@ -15,6 +15,7 @@ use hh_commands::{Bounds, Comparison, condensed_part, summary_in};
 use hh_counters::Candidates;
 use hh_faults::ToolError;
 use hh_pieces::{ReadAt, SourceRecords};
+use hh_rows::Output;
 use hh_stream::in_range;
 use hh_workers::MAX_WORKERS;
 use std::alloc::Global;
@@ -43,9 +44,10 @@ pub fn condense_files<T: Threads + Wait + Sync, S: ReadAt + Sync>(
     file: &[u8],
     workers: u64,
     records: SourceRecords<'_, S>,
+    output: &Output,
     compared: &mut Comparison,
 ) -> Result<Vec<u8>, ToolError>
-    ensures rows { IfOk result (λ rows. CondensesRows records.entry.layout.now.decimals file.now
+    ensures rows { IfOk result (λ rows. CondensesIn output.now file.now
         (sources_known S.bytes records.entry) rows.items) }
     ensures bounds { OnOk result (ComparesBounds compared.old.refuses Bounds.High file.now
         (sources_known S.bytes records.entry) compared.new.outside) }
@@ -63,6 +65,5 @@ pub fn condense_files<T: Threads + Wait + Sync, S: ReadAt + Sync>(
     }
     let candidates = Candidates::with_hasher(alloc, &summary, records.layout.hash)?;
     let counts = count_sources(&Crew { rt, workers }, alloc, &candidates, records)?;
-    let decimals = records.layout.decimals;
-    condensed_part(alloc, &summary, &counts, decimals, compared)
+    condensed_part(alloc, &summary, &counts, output, compared)
 }

@@ -6,7 +6,8 @@ use Rattle.hh_stream.specs.Weights.{Entry}
 use Rattle.hh_summaries.specs.Counters.{SummaryView}
 use Rattle.hh_counters.specs.Counting.{Count, count_of}
 use Rattle.hh_records.specs.Streams.{Known}
-use Rattle.hh_rows.specs.Printed.{printed_rows}
+use Rattle.hh_rows.specs.Outputs.{plain_output}
+use Rattle.hh_rows.specs.Printed.{all_rows, printed_rows}
 use Rattle.hh_rows.specs.declared.printed.RowOptions.{RowOptions}
 use Rattle.hh_faults.specs.declared.error.ToolError.{ToolError}
 use Rattle.hh_commands.specs.Bounds.{AreWithin, ComparesBounds, TellsOutside}
@@ -18,7 +19,7 @@ use Rattle.hh_commands.specs.declared.compared.Bounds.{Bounds}
 use Rattle.hh_commands.specs.declared.compared.Bounds.TheVariants as bounds
 use Rattle.hh_commands.specs.declared.compared.Outside.{Outside}
 use Rattle.hh_library.specs.CountItems.{share_or_least}
-use Rattle.hh_library.specs.LaidOut.{CondensesBounded, ConfirmsBounded, rows_in_units}
+use Rattle.hh_library.specs.LaidOut.{CondensesBounded, ConfirmsBounded}
 
 -- where a key outside its bounds refuses, rows that are made tell that there is none
 none_outside : (refuses : Bool) → refuses ≡ true → (b : Bounds) (s : SummaryView) (xs : List Entry) (found : Option Outside)
@@ -39,7 +40,7 @@ module _ {A : Type 0} (items : A → List ℕ) (file : List ℕ) (known : Known)
   -- and so are confirmed ones
   pub confirms_bounded : (s : SummaryView) → HoldsSummary file s → (counts : Count) → CountsRecords known (keys_of s.counters) counts
       → (share : Option (ℕ × ℕ)) (t : ℕ × ℕ) → share_or_least share s.k ≡ Some t
-      → (options : RowOptions) → options ≡ rows_in_units d
+      → (options : RowOptions) → options ≡ all_rows (plain_output d)
       → (r : Result A ToolError) → OnOk r (s.total ≡ counts.total)
       → IfOk r (λ x. (xs : List Entry) → counts ≡ count_of (keys_of s.counters) xs
       → items x ≡ printed_rows s.total options (confirmed_above t.0 t.1 s xs))

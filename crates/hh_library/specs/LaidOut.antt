@@ -1,5 +1,5 @@
 -- The records of a text whose keys and weights stand in columns of one's own.
-use Rattle.std.specs.Prelude.{◌≡◌, ◌⊎◌, not, ℕ, false, true, List, [], ◌∷◌, Option, Some, None, Ok, if◌then◌else◌}
+use Rattle.std.specs.Prelude.{◌≡◌, ◌⊎◌, not, ℕ, true, List, [], ◌∷◌, Option, Some, None, Ok, if◌then◌else◌}
 use Rattle.hh_stream.specs.Ranges.{in_range}
 use Rattle.hh_stream.specs.Weights.{Entry, total_of}
 use Rattle.hh_summaries.specs.Counters.{SummaryView, max_k}
@@ -9,8 +9,8 @@ use Rattle.hh_top.specs.Top.{GreatestRefused, top}
 use Rattle.hh_records.specs.Layouts.{names_columns, stream_with}
 use Rattle.hh_records.specs.Streams.{Known, ReadsAs}
 use Rattle.hh_records.specs.declared.layout.Layout.{Layout}
-use Rattle.hh_rows.specs.Printed.{printed_rows}
-use Rattle.hh_rows.specs.declared.printed.RowOptions.{RowOptions}
+use Rattle.hh_rows.specs.Outputs.{plain_output}
+use Rattle.hh_rows.specs.Printed.{all_rows, printed_rows}
 use Rattle.hh_commands.specs.Bounds.{AreWithin}
 use Rattle.hh_commands.specs.declared.compared.Bounds.TheVariants as bounds
 use Rattle.hh_commands.specs.Condense.{CondensePartRefused, CondensesRows}
@@ -30,10 +30,6 @@ text_laid layout text = record {
   reading = Some (stream_with layout (text ∷ []));
 }
 
--- all rows with weights in units of 10^-d, and no shares
-abbrev pub rows_in_units : ℕ → RowOptions
-rows_in_units d = record { top = None; share = false; decimals = d }
-
 -- the value becomes that with the items added that the records are
 abbrev pub AddsRecords : Saved → Known → Saved → Type 0
 AddsRecords v known new = (xs : List Entry) × ReadsAs known (Ok xs) × (added_to v xs ≡ Ok new)
@@ -50,7 +46,7 @@ ConfirmsBounded share d file known rows =
     (s : SummaryView) × (t : ℕ × ℕ) × (xs : List Entry) × HoldsSummary file s
     × (share_or_least share s.k ≡ Some t) × ReadsAs known (Ok xs) × (s.total ≡ total_of xs)
     × AreWithin bounds.Both s xs
-    × (rows ≡ printed_rows (total_of xs) (rows_in_units d) (confirmed_above t.0 t.1 s xs))
+    × (rows ≡ printed_rows (total_of xs) (all_rows (plain_output d)) (confirmed_above t.0 t.1 s xs))
 
 -- what a refusal to confirm so tells: of the file, of its kind, of the share, of the records, of the totals, and of a
 -- key outside its bounds
@@ -81,7 +77,7 @@ bad_report k share = if not (in_range k max_k) then Some tool.BadK else bad_shar
 abbrev pub ReportsRows : ℕ → Option (ℕ × ℕ) → ℕ → Known → List ℕ → Type 0
 ReportsRows k share d known rows =
     (t : ℕ × ℕ) × (xs : List Entry) × (share_or_least share k ≡ Some t) × ReadsAs known (Ok xs)
-    × (rows ≡ printed_rows (total_of xs) (rows_in_units d) (heavy xs t.0 t.1))
+    × (rows ≡ printed_rows (total_of xs) (all_rows (plain_output d)) (heavy xs t.0 t.1))
 
 -- the records read as items, whose weights the tally bounds
 abbrev pub TalliesText : Known → TallyView → Type 0
@@ -90,7 +86,7 @@ TalliesText known t = (xs : List Entry) × ReadsAs known (Ok xs) × AreBounds t 
 -- the rows are the n greatest keys of the stream that the records are
 abbrev pub GivesTop : ℕ → ℕ → Known → List ℕ → Type 0
 GivesTop n d known rows =
-    (xs : List Entry) × ReadsAs known (Ok xs) × (rows ≡ printed_rows (total_of xs) (rows_in_units d) (top n xs))
+    (xs : List Entry) × ReadsAs known (Ok xs) × (rows ≡ printed_rows (total_of xs) (all_rows (plain_output d)) (top n xs))
 
 -- what a refusal of the n greatest keys tells: of the records, or how many are certain where k keys are counted
 abbrev pub TopIsRefused : ℕ → ℕ → Known → ToolError → Type 0

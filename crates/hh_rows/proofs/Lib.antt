@@ -1,9 +1,7 @@
 pub mod MemberFacts
-pub mod RecordFacts
 pub mod RowFacts
 pub mod ShareFacts
 pub mod StringFacts
 pub mod TakeFacts
 pub mod TextFacts
 pub mod Utf8Facts
-pub mod WrittenFacts

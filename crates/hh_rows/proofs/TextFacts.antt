@@ -20,7 +20,8 @@ use Rattle.hh_counters.specs.Condensed.{condensed}
 use Rattle.hh_summaries.specs.Counters.{Counters, max_k}
 use Rattle.hh_counters.specs.Laws.{CondensedAreItems, CondensedKeepsWeights}
 use Rattle.hh_rows.specs.Laws.{CondensedFilesAreRead}
-use Rattle.hh_rows.specs.Rows.{begins_with_mark, condensed_text, first_row_by, quoted_row_by, row_of, rows_of}
+use Rattle.hh_rows.specs.Outputs.{plain_output}
+use Rattle.hh_rows.specs.Rows.{begins_with_mark, condensed_text, first_row_in, quoted_row_by, row_of, rows_of}
 use Rattle.hh_records.proofs.WrittenFacts.{IsWritten, written}
 use Rattle.hh_records.specs.Streams.{Fields, items_from, item_of_fields, reading_next, stream_of}
 
@@ -106,7 +107,7 @@ reads_quoted e w = reads_one e (quoted_row_by 0 e) (omega arith) (λ tail.
     ∙ ap (next_record default_config st.InField [] e.0) (sym weight)
     ∙ rest-run [] e.0 (d ∷ []) tail)
 
-reads_first : (e : Entry) → IsWritten e.1 → Reads (e ∷ []) (first_row_by 0 e)
+reads_first : (e : Entry) → IsWritten e.1 → Reads (e ∷ []) (first_row_in (plain_output 0) e)
 reads_first e w = elim (begins_with_mark e.0) as (λ b. Reads (e ∷ []) (if b then quoted_row_by 0 e else row_of e)) [
   | true ↦ reads_quoted e w
   | false ↦ reads_row e
@@ -122,7 +123,7 @@ IsReadable e = IsKey e.0 × (0 < e.1) × IsWritten e.1
 
 reads_condensed : (es : List Entry) → AllByRecursion IsReadable es → Reads es (condensed_text es)
 reads_condensed [] h = reads_none
-reads_condensed (e ∷ es) h = reads_both (e ∷ []) es (first_row_by 0 e) (rows_of es) (reads_first e h.0.2) (reads_rows es)
+reads_condensed (e ∷ es) h = reads_both (e ∷ []) es (first_row_in (plain_output 0) e) (rows_of es) (reads_first e h.0.2) (reads_rows es)
 
 reads_parts : (parts : List (List Entry)) → AllByRecursion (AllByRecursion IsReadable) parts
     → Reads (whole_of parts) (flat_map condensed_text parts)
@@ -172,7 +173,7 @@ strip_row e tail h =
     by true needs = rw needs (strip_other 34 ((escaped default_writer e.0 ++ (34 ∷ [])) ++ (44 ∷ row_rest e tail)) refl)
     by false plain = rw plain (strip_key e.0 (row_rest e tail) h)
 
-strip_first : (e : Entry) (tail : List ℕ) → strip_bom (first_row_by 0 e ++ tail) ≡ first_row_by 0 e ++ tail
+strip_first : (e : Entry) (tail : List ℕ) → strip_bom (first_row_in (plain_output 0) e ++ tail) ≡ first_row_in (plain_output 0) e ++ tail
 strip_first e tail = elim (begins_with_mark e.0) as (λ b. begins_with_mark e.0 ≡ b
     → strip_bom ((if b then quoted_row_by 0 e else row_of e) ++ tail)
     ≡ (if b then quoted_row_by 0 e else row_of e) ++ tail) [
@@ -185,7 +186,7 @@ unfolding strip_bom
 strip_parts [] = refl
 strip_parts ([] ∷ parts) = strip_parts parts
 strip_parts ((e ∷ es) ∷ parts) =
-    let begins = append_assoc (first_row_by 0 e) (rows_of es) (flat_map condensed_text parts) in
+    let begins = append_assoc (first_row_in (plain_output 0) e) (rows_of es) (flat_map condensed_text parts) in
     ap strip_bom begins ∙ strip_first e (rows_of es ++ flat_map condensed_text parts) ∙ sym begins
 
 -- ---- records, taken as items

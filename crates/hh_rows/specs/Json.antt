@@ -1,9 +1,8 @@
--- Records as JSON, an object a line.
+-- Records as JSON.
 use Rattle.std.specs.Prelude.{◌/◌, ◌%◌, ◌==◌, ◌||◌, nat_lt, ℕ, Bool, false, List, [], ◌∷◌, ◌++◌, if◌then◌else◌}
 use Rattle.std.specs.Char.{digit_char, is_ascii_digit}
 use Rattle.std.specs.List.{flat_map, zip}
 use Rattle.std.specs.Str.{is_utf8}
-use Rattle.csv.specs.Machine.{line_feed}
 use Rattle.csv.specs.Writing.{backslash, comma, quote_mark}
 
 -- the bytes around an object, and the one after a member's name
@@ -64,6 +63,6 @@ abbrev pub members_text : List (List ℕ × List ℕ) → List ℕ
 members_text [] = []
 members_text (p ∷ ps) = member_text p.0 (string_text p.1) ++ flat_map next_member ps
 
--- a record as an object in a line
+-- a record as an object
 abbrev pub object_text : List (List ℕ) → List (List ℕ) → List ℕ
-object_text names fields = left_brace ∷ (members_text (zip names fields) ++ (right_brace ∷ line_feed ∷ []))
+object_text names fields = left_brace ∷ (members_text (zip names fields) ++ (right_brace ∷ []))

@@ -1,18 +1,17 @@
--- What holds of rows that are written, and of rows in another form.
-use Rattle.std.specs.Prelude.{◌≡◌, ◌+◌, ◌*◌, ◌<◌, ◌≤◌, ℕ, All, IsUtf8, true, false, List, [], ◌∷◌, ◌++◌, codes, length, map, Ok}
+-- What holds of rows that are written.
+use Rattle.std.specs.Prelude.{◌≡◌, ◌+◌, ◌*◌, ◌<◌, ◌≤◌, ℕ, All, IsUtf8, Bool, true, false, List, [], ◌∷◌, codes, length, Ok}
 use Rattle.std.specs.List.{AllByRecursion, flat_map}
-use Rattle.csv.specs.Writing.{default_writer, read_back, row_text}
 use Rattle.hh_stream.specs.Weights.{AreItems, Entry, max_total, total_of}
 use Rattle.hh_stream.specs.Cuttings.{whole_of}
 use Rattle.hh_summaries.specs.Counters.{SummaryView, max_k}
 use Rattle.hh_counters.specs.Condensed.{condensed}
 use Rattle.hh_rows.specs.Json.{is_control, string_text}
-use Rattle.hh_rows.specs.Outputs.{names_in, plain_output, row_in, rows_in}
-use Rattle.hh_rows.specs.Printed.{millionths, plain_rows, printed_rows}
-use Rattle.hh_rows.specs.Rows.{condensed_text, rows_of}
+use Rattle.hh_rows.specs.Outputs.{plain_output, row_in, rows_in}
+use Rattle.hh_rows.specs.Printed.{all_rows, millionths, printed_rows, weight_columns}
+use Rattle.hh_rows.specs.Rows.{condensed_text, rows_by}
 use Rattle.hh_records.specs.Streams.{stream_of}
+use Rattle.hh_rows.specs.declared.output.Form.{Form}
 use Rattle.hh_rows.specs.declared.output.Form.TheVariants as form
-use Rattle.hh_rows.specs.declared.output.Output.{Output}
 
 -- condensed parts in files that are joined are read as the condensed parts
 abbrev pub CondensedFilesAreRead : Type 0
@@ -22,9 +21,10 @@ CondensedFilesAreRead =
     → stream_of (flat_map (λ part. condensed_text (condensed s.counters part)) parts)
     ≡ Ok (flat_map (condensed s.counters) parts)
 
--- with no option of rows these are the rows of a report
+-- all rows, plain and with no shares, are the rows of a report
 abbrev pub PlainRowsAreRows : Type 0
-PlainRowsAreRows = (total : ℕ) (es : List Entry) → printed_rows total plain_rows es ≡ rows_of es
+PlainRowsAreRows =
+    (total d : ℕ) (es : List Entry) → printed_rows total (all_rows (plain_output d)) es ≡ rows_by d es
 
 -- a share is the most millionths of the total that the weight has
 abbrev pub SharesAreRoundedDown : Type 0
@@ -32,17 +32,6 @@ SharesAreRoundedDown =
     (total weight : ℕ) → 0 < total
     → (millionths total weight * total ≤ weight * 1000000)
     × (weight * 1000000 < (millionths total weight + 1) * total)
-
--- with the plain output the rows are the text as it is
-abbrev pub PlainRowsAreTheText : Type 0
-PlainRowsAreTheText = (names : List (List ℕ)) (text : List ℕ) → rows_in plain_output names text ≡ text
-
--- rows that csv's default writer wrote are converted one by one, each as it is read back
-abbrev pub RowsAreConverted : Type 0
-RowsAreConverted =
-    (output : Output) (names : List (List ℕ)) (rows : List (List (List ℕ)))
-    → rows_in output names (flat_map (row_text default_writer) rows)
-    ≡ names_in output names ++ flat_map (row_in output.form names) (map read_back rows)
 
 -- equal strings are of equal fields, whether these are UTF-8 or not
 abbrev pub StringsTellFieldsApart : Type 0
@@ -57,23 +46,22 @@ abbrev pub StringsHaveNoControls : Type 0
 StringsHaveNoControls =
     (f : List ℕ) → All (λ b. b < 256) f → All (λ b. is_control b ≡ false) (string_text f)
 
--- the names of two columns, and two rows of them
-abbrev pub example_names : List (List ℕ)
-example_names = codes "key" ∷ codes "weight" ∷ []
+-- two rows of a key and a weight
+abbrev pub example_rows : List (List (List ℕ))
+example_rows = (codes "a" ∷ codes "1" ∷ []) ∷ (codes "b \"c" ∷ codes "20" ∷ []) ∷ []
 
-abbrev pub example_text : List ℕ
-example_text = codes "a,1\n\"b \"\"c\",20\n"
+-- how they are written in a form
+abbrev pub example_in : Form → Bool → List ℕ
+example_in f names =
+    rows_in (record { form = f; has_names = names; decimals = 0 }) weight_columns (λ fields. fields) example_rows
 
 -- the rows in each form
 abbrev pub ExampleRows : Type 0
 ExampleRows =
-    (rows_in (record { form = form.Csv; has_names = true }) example_names example_text
-    ≡ codes "key,weight\na,1\n\"b \"\"c\",20\n")
-    × (rows_in (record { form = form.Tsv; has_names = true }) example_names example_text
-    ≡ codes "key\tweight\na\t1\n\"b \"\"c\"\t20\n")
-    × (rows_in (record { form = form.Json; has_names = false }) example_names example_text
-    ≡ codes "{\"key\":\"a\",\"weight\":1}\n{\"key\":\"b \\\"c\",\"weight\":20}\n")
-    × (rows_in (record { form = form.Json; has_names = false }) (codes "name" ∷ codes "value" ∷ []) (codes "kind,table\n")
+    (example_in form.Csv true ≡ codes "key,weight\na,1\n\"b \"\"c\",20\n")
+    × (example_in form.Tsv true ≡ codes "key\tweight\na\t1\n\"b \"\"c\"\t20\n")
+    × (example_in form.Json false ≡ codes "{\"key\":\"a\",\"weight\":1}\n{\"key\":\"b \\\"c\",\"weight\":20}\n")
+    × (row_in form.Json (codes "name" ∷ codes "value" ∷ []) (codes "kind" ∷ codes "table" ∷ [])
     ≡ codes "{\"name\":\"kind\",\"value\":\"table\"}\n")
 
 -- fields as strings: one that is UTF-8, one that is not, and one of bytes that are escaped

@@ -2,7 +2,6 @@ pub mod Json
 pub mod Laws
 pub mod Outputs
 pub mod Printed
-pub mod Readers
 pub mod Rows
 pub mod Sinks
 pub mod Thresholds

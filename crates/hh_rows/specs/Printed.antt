@@ -1,9 +1,9 @@
 -- The rows that are printed of a report.
-use Rattle.std.specs.Prelude.{ℕ, false, ◌*◌, ◌/◌, ◌==◌, Bool, List, [], ◌∷◌, take, Option, Some, None, if◌then◌else◌}
-use Rattle.std.specs.List.{flat_map}
-use Rattle.csv.specs.Writing.{default_writer, row_text}
+use Rattle.std.specs.Prelude.{ℕ, false, ◌*◌, ◌/◌, ◌==◌, Bool, List, [], ◌∷◌, ◌++◌, codes, take, Option, Some, None, if◌then◌else◌}
 use Rattle.hh_stream.specs.Weights.{Entry}
 use Rattle.hh_records.specs.Decimals.{pointed}
+use Rattle.hh_rows.specs.Outputs.{rows_in}
+use Rattle.hh_rows.specs.declared.output.Output.{Output}
 use Rattle.hh_rows.specs.declared.printed.RowOptions.{RowOptions}
 
 -- a weight's share of a total in millionths, rounded down; of no total it is none
@@ -18,11 +18,20 @@ percent n = pointed 4 n
 abbrev pub share_fields : ℕ → Bool → ℕ → List (List ℕ)
 share_fields total share weight = if share then percent (millionths total weight) ∷ [] else []
 
--- the text of one row: the key, the weight in units of 10^-d and, where it is wanted, its share of a
--- total
-abbrev pub printed_row : ℕ → RowOptions → Entry → List ℕ
-printed_row total options e =
-    row_text default_writer (e.0 ∷ pointed options.decimals e.1 ∷ share_fields total options.share e.1)
+-- the fields of a row: the key, and the weight in units of 10^-d
+abbrev pub weight_fields : ℕ → Entry → List (List ℕ)
+weight_fields d e = e.0 ∷ pointed d e.1 ∷ []
+
+-- and where it is wanted, the weight's share of a total
+abbrev pub printed_fields : ℕ → RowOptions → Entry → List (List ℕ)
+printed_fields total options e = weight_fields options.output.decimals e ++ share_fields total options.share e.1
+
+-- the names of columns: of keys and their weights, and of a report
+abbrev pub weight_columns : List (List ℕ)
+weight_columns = codes "key" ∷ codes "weight" ∷ []
+
+abbrev pub report_columns : RowOptions → List (List ℕ)
+report_columns options = if options.share then codes "key" ∷ codes "weight" ∷ codes "share" ∷ [] else weight_columns
 
 -- the first n rows, or all of them
 abbrev pub topmost : Option ℕ → List Entry → List Entry
@@ -31,8 +40,9 @@ topmost (Some n) es = take n es
 
 -- the text of these rows as the options want it, with shares of a total
 abbrev pub printed_rows : ℕ → RowOptions → List Entry → List ℕ
-printed_rows total options es = flat_map (printed_row total options) (topmost options.top es)
+printed_rows total options es =
+    rows_in options.output (report_columns options) (printed_fields total options) (topmost options.top es)
 
--- all rows, of whole numbers, and no shares
-abbrev pub plain_rows : RowOptions
-plain_rows = record { top = None; share = false; decimals = 0 }
+-- all rows, and no shares
+abbrev pub all_rows : Output → RowOptions
+all_rows output = record { top = None; share = false; output = output }

@@ -1,17 +1,21 @@
 -- The rows of a report.
-use Rattle.std.specs.Prelude.{◌≡◌, ℕ, Bool, false, List, [], ◌∷◌, ◌++◌, if◌then◌else◌}
+use Rattle.std.specs.Prelude.{ℕ, Bool, false, List, [], ◌∷◌, ◌++◌, if◌then◌else◌}
 use Rattle.std.specs.List.{flat_map}
 use Rattle.csv.specs.Machine.{line_feed}
 use Rattle.csv.specs.Reading.{is_bom}
-use Rattle.csv.specs.Writing.{comma, default_writer, fields_written, has_written, quoted, row_text, writer_setup}
-use Rattle.csv.specs.declared.writer.Writer.{Writer}
+use Rattle.csv.specs.Writing.{comma, default_writer, quoted, row_text}
 use Rattle.hh_stream.specs.Weights.{Bytes, Entry}
 use Rattle.hh_records.specs.Decimals.{pointed}
+use Rattle.hh_rows.specs.Outputs.{Written, no_rows, plain_output, row_in, with_rows}
+use Rattle.hh_rows.specs.Printed.{weight_columns, weight_fields}
+use Rattle.hh_rows.specs.declared.output.Form.{Form}
+use Rattle.hh_rows.specs.declared.output.Form.TheVariants as form
+use Rattle.hh_rows.specs.declared.output.Output.{Output}
 
 -- the text of one row: the key and the weight, in units of 10^-d, as csv's default writer writes them,
 -- and a line feed
 abbrev pub row_by : ℕ → Entry → List ℕ
-row_by d e = row_text default_writer (e.0 ∷ pointed d e.1 ∷ [])
+row_by d e = row_text default_writer (weight_fields d e)
 
 -- the text of these rows, one after the other
 abbrev pub rows_by : ℕ → List Entry → List ℕ
@@ -35,20 +39,27 @@ begins_with_mark (a ∷ b ∷ c ∷ rest) = is_bom a b c
 abbrev pub quoted_row_by : ℕ → Entry → List ℕ
 quoted_row_by d e = quoted default_writer e.0 ++ (comma ∷ (pointed d e.1 ++ (line_feed ∷ [])))
 
--- the text of a row that may stand first: a reader would take a mark off that is not in quotes
-abbrev pub first_row_by : ℕ → Entry → List ℕ
-first_row_by d e = if begins_with_mark e.0 then quoted_row_by d e else row_by d e
+-- whether a reader takes bytes of a key off that stands first: in CSV those of a mark
+abbrev pub is_marked : Form → Bytes → Bool
+is_marked form.Csv x = begins_with_mark x
+is_marked f x = false
 
--- the text of these rows, which may stand first
-abbrev pub condensed_by : ℕ → List Entry → List ℕ
-condensed_by d [] = []
-condensed_by d (e ∷ es) = first_row_by d e ++ rows_by d es
+-- the text of a row that may stand first
+abbrev pub first_row_in : Output → Entry → List ℕ
+first_row_in output e =
+    if is_marked output.form e.0 then quoted_row_by output.decimals e
+    else row_in output.form weight_columns (weight_fields output.decimals e)
 
--- the text of rows that may stand first, whose weights are whole numbers
+-- such a row, and that of the names before it where it is wanted
+abbrev pub first_row : Output → Entry → Written
+first_row output e =
+    let rows = no_rows output weight_columns in record rows { text = rows.text ++ first_row_in output e }
+
+-- the text of these rows, of which the first may stand first
+abbrev pub condensed_in : Output → List Entry → List ℕ
+condensed_in output [] = (no_rows output weight_columns).text
+condensed_in output (e ∷ es) = (with_rows (first_row output e) (weight_fields output.decimals) es).text
+
+-- their text as CSV, with weights in whole numbers
 abbrev pub condensed_text : List Entry → List ℕ
-condensed_text es = condensed_by 0 es
-
--- a default writer between two records
-abbrev pub IsBetweenRows : {W : Type 0} → Writer W → Type 0
-IsBetweenRows w =
-    (fields_written w ≡ 0) × (has_written w ≡ false) × (writer_setup w ≡ default_writer)
+condensed_text es = condensed_in (plain_output 0) es

@@ -1,15 +1,13 @@
 //! Records as JSON.
 
-ghost use Rattle.std.specs.Prelude.{◌≡◌, ◌++◌, ◌<◌, OnOk, drop, map};
+ghost use Rattle.std.specs.Prelude.{◌≡◌, ◌++◌, ◌<◌, IfOk, OnOk, map};
 ghost use Rattle.std.specs.Char.{digit_char};
 ghost use Rattle.std.specs.List.{flat_map, zip};
 ghost use Rattle.std.specs.Str.{is_utf8};
-ghost use Rattle.csv.specs.Records.{fields_of};
 ghost use Rattle.hh_rows.specs.Json.{escaped_by, hex, is_number, members_text, next_member};
 ghost use Rattle.hh_rows.specs.Json.{object_text, string_byte, string_text, value_text};
 
-use csv::ByteRecord;
-use std::alloc::AllocError;
+use std::alloc::{AllocError, Global};
 use std::str;
 
 /// The digit that writes a number below 16.
@@ -111,50 +109,46 @@ fn push_member(text: &mut Vec<u8>, name: &[u8], field: &[u8]) -> Result<(), Allo
     push_value(text, field)
 }
 
-/// Writes the members of a record's fields after the first, by the `names` of its fields.
-fn push_others(text: &mut Vec<u8>, names: &[&[u8]], row: &ByteRecord) -> Result<(), AllocError>
+/// Writes the members of a record's fields after the first, by the `names` of these fields.
+fn push_others(text: &mut Vec<u8>, names: &[&[u8]], fields: &[&[u8]]) -> Result<(), AllocError>
     ensures { OnOk result (text.new.items ≡ text.old.items ++ flat_map next_member
-        (zip (drop 1 (map (λ name. name.now) names.now)) (drop 1 (fields_of row.now)))) }
+        (zip (map (λ name. name.now) names.now) (map (λ field. field.now) fields.now))) }
 {
-    for i in 1..names.len() {
-        let Some(field) = row.get(i) else {
-            return Ok(());
-        };
-        push_member(text, names[i], field)?;
+    for (name, field) in names.iter().zip(fields) {
+        push_member(text, name, field)?;
     }
     Ok(())
 }
 
 /// Writes the members of a record, by the `names` of its fields.
-fn push_members(text: &mut Vec<u8>, names: &[&[u8]], row: &ByteRecord) -> Result<(), AllocError>
-    ensures { OnOk result (text.new.items ≡ text.old.items
-        ++ members_text (zip (map (λ name. name.now) names.now) (fields_of row.now))) }
+fn push_members(text: &mut Vec<u8>, names: &[&[u8]], fields: &[&[u8]]) -> Result<(), AllocError>
+    ensures { OnOk result (text.new.items ≡ text.old.items ++ members_text
+        (zip (map (λ name. name.now) names.now) (map (λ field. field.now) fields.now))) }
 {
-    let Some(name) = names.first() else {
+    let Some((name, names)) = names.split_first() else {
         return Ok(());
     };
-    let Some(field) = row.get(0) else {
+    let Some((field, fields)) = fields.split_first() else {
         return Ok(());
     };
     push_string(text, name)?;
     text.push(b':')?;
     push_string(text, field)?;
-    push_others(text, names, row)?;
-    Ok(())
+    push_others(text, names, fields)
 }
 
-/// Writes a record as an object in a line, by the `names` of its fields.
-pub(crate) fn push_object(
-    text: &mut Vec<u8>,
+/// Gives a record as an object, by the `names` of its fields.
+pub(crate) fn object_of(
+    alloc: Global,
     names: &[&[u8]],
-    row: &ByteRecord,
-) -> Result<(), AllocError>
-    ensures { OnOk result (text.new.items
-        ≡ text.old.items ++ object_text (map (λ name. name.now) names.now) (fields_of row.now)) }
+    fields: &[&[u8]],
+) -> Result<Vec<u8>, AllocError>
+    ensures { IfOk result (λ text. text.items ≡ object_text
+        (map (λ name. name.now) names.now) (map (λ field. field.now) fields.now)) }
 {
+    let mut text = Vec::new(alloc);
     text.push(b'{')?;
-    push_members(text, names, row)?;
+    push_members(&mut text, names, fields)?;
     text.push(b'}')?;
-    text.push(b'\n')?;
-    Ok(())
+    Ok(text)
 }

@@ -1,8 +1,7 @@
 //! Laws of the definitions in `specs/`. Each function does nothing: its contract is the law.
 
 ghost use Rattle.hh_rows.specs.Laws.{CondensedFilesAreRead, ExampleRows, ExampleStrings};
-ghost use Rattle.hh_rows.specs.Laws.{PlainRowsAreRows, PlainRowsAreTheText, RowsAreConverted};
-ghost use Rattle.hh_rows.specs.Laws.{SharesAreRoundedDown, StringsAreUtf8};
+ghost use Rattle.hh_rows.specs.Laws.{PlainRowsAreRows, SharesAreRoundedDown, StringsAreUtf8};
 ghost use Rattle.hh_rows.specs.Laws.{StringsHaveNoControls, StringsTellFieldsApart};
 
 use hh_counters::laws::condensed_keeps_weights;
@@ -14,7 +13,7 @@ pub fn condensed_files_are_read()
     condensed_keeps_weights();
 }
 
-/// With no option of rows a report is printed as it is written.
+/// All rows of a report, plain and with no shares, are printed as they are written.
 pub fn plain_rows_are_rows()
     ensures { PlainRowsAreRows }
 {}
@@ -22,16 +21,6 @@ pub fn plain_rows_are_rows()
 /// A share is rounded down.
 pub fn shares_are_rounded_down()
     ensures { SharesAreRoundedDown }
-{}
-
-/// With the plain output the rows are the text as it is.
-pub fn plain_rows_are_the_text()
-    ensures { PlainRowsAreTheText }
-{}
-
-/// Rows that `csv`'s default writer wrote are converted one by one, each as it is read back.
-pub fn rows_are_converted()
-    ensures { RowsAreConverted }
 {}
 
 /// Equal strings are of equal fields, whether these are UTF-8 or not.

@@ -1,17 +1,20 @@
 //! The rows of a report as they are printed: at most the first ones, and with shares of the total.
 
-ghost use Rattle.std.specs.Prelude.{◌≡◌, Some, IfOk, OnOk};
-ghost use Rattle.std.specs.Io.KnownBytes.{Appends};
-ghost use Rattle.csv.specs.Writing.{text_written};
-ghost use Rattle.hh_rows.specs.Printed.{millionths};
-ghost use Rattle.hh_rows.specs.Printed.{plain_rows, printed_row, printed_rows, topmost};
-ghost use Rattle.hh_rows.specs.Rows.{IsBetweenRows};
+ghost use Rattle.std.specs.Prelude.{◌≡◌, Some, IfOk, OnOk, map};
+ghost use Rattle.hh_rows.specs.Outputs.{with_row, with_rows};
+ghost use Rattle.hh_rows.specs.Printed.{all_rows, millionths, printed_fields, printed_rows};
+ghost use Rattle.hh_rows.specs.Printed.{report_columns, topmost};
 
-use crate::rows::{put_fields, text_of, write_row};
-use csv::{Writer, WriterBuilder};
+use crate::output::Output;
+use crate::row_writer::{Names, RowWriter};
 use hh_counters::Heavy;
 use hh_records::pointed;
 use std::alloc::{AllocError, Global};
+
+/// The columns of keys and their weights.
+pub(crate) const WEIGHTS: Names = &[b"key", b"weight"];
+
+const SHARES: Names = &[b"key", b"weight", b"share"];
 
 /// Which rows of a report are printed, and how.
 #[derive(Clone, Copy, Debug)]
@@ -21,22 +24,28 @@ pub struct RowOptions {
     /// A row has a third column: its weight's share of the total in percent, rounded down, with
     /// four digits after the point.
     pub share: bool,
-    /// The digits of a weight after the point: those of the [`Layout`](crate::Layout) by which the
-    /// records were read.
-    pub decimals: u8,
+    /// How they are written.
+    pub output: Output,
 }
 
 impl RowOptions {
-    /// All rows, of whole numbers, and no shares.
-    pub fn plain() -> RowOptions
-        ensures { result ≡ plain_rows }
+    /// All rows, and no shares.
+    pub fn all(output: Output) -> RowOptions
+        ensures { result ≡ all_rows output }
     {
         RowOptions {
             top: None,
             share: false,
-            decimals: 0,
+            output,
         }
     }
+}
+
+/// Gives the names of the columns of a report.
+fn report_columns(options: &RowOptions) -> Names
+    ensures { map (λ name. name.now) result.now ≡ report_columns options.now }
+{
+    if options.share { SHARES } else { WEIGHTS }
 }
 
 /// Gives the first `top` of `rows`, or all of them if there are fewer or `top` is `None`.
@@ -60,33 +69,48 @@ fn millionths(total: u64, weight: u64) -> u128
 }
 
 /// Writes a row after the others, as the options want it, with its share of a total.
-fn write_printed_row(
+fn push_printed(
     alloc: Global,
-    writer: &mut Writer<Vec<u8>>,
+    rows: &mut RowWriter,
     total: u64,
     options: &RowOptions,
     row: &Heavy,
 ) -> Result<(), AllocError>
-    requires { IsBetweenRows writer.old }
-    ensures between { OnOk result (IsBetweenRows writer.new) }
-    ensures text { OnOk result (Appends
-        (text_written (λ text. Some text.items) writer.old)
-        (text_written (λ text. Some text.items) writer.new)
-        (printed_row total options.now row.now)) }
+    ensures { OnOk result (rows.new
+        ≡ with_row rows.old (printed_fields total options.now row.now)) }
 {
+    let weight = pointed(alloc, u128::from(row.weight), options.output.decimals)?;
     if !options.share {
-        return write_row(alloc, writer, row, options.decimals);
+        return rows.push(alloc, &[row.key.bytes(), weight.as_slice()]);
     }
-    let weight = pointed(alloc, u128::from(row.weight), options.decimals)?;
     let share = pointed(alloc, millionths(total, row.weight), 4)?;
-    put_fields(
-        writer,
+    rows.push(
+        alloc,
         &[row.key.bytes(), weight.as_slice(), share.as_slice()],
     )
 }
 
-/// The rows of a report as the options want them, with shares of this total. With
-/// [`RowOptions::plain`] they are those of [`report_text`](crate::report_text).
+/// The text of what `before` has written, and of `rows` after it, as the options want each.
+pub(crate) fn with_printed(
+    alloc: Global,
+    before: RowWriter,
+    total: u64,
+    options: &RowOptions,
+    rows: &[Heavy],
+) -> Result<Vec<u8>, AllocError>
+    ensures { IfOk result (λ text. text.items
+        ≡ (with_rows before (printed_fields total options.now) rows.now).text) }
+{
+    let mut all = before;
+    for row in rows {
+        push_printed(alloc, &mut all, total, options, row)?;
+    }
+    all.into_text()
+}
+
+/// The rows of a report as the options want them, with shares of this total. As
+/// [`RowOptions::all`] of [`Output::plain`] they are those of
+/// [`report_text`](crate::report_text).
 pub fn printed_text(
     alloc: Global,
     total: u64,
@@ -95,10 +119,6 @@ pub fn printed_text(
 ) -> Result<Vec<u8>, AllocError>
     ensures { IfOk result (λ text. text.items ≡ printed_rows total options.now rows.now) }
 {
-    let mut writer = WriterBuilder::new().from_writer(Vec::new(alloc));
-    let first = topmost(options.top, rows);
-    for row in first {
-        write_printed_row(alloc, &mut writer, total, options, row)?;
-    }
-    text_of(writer)
+    let before = RowWriter::new(alloc, &options.output, report_columns(options))?;
+    with_printed(alloc, before, total, options, topmost(options.top, rows))
 }

@@ -1,21 +1,22 @@
 //! What a saved file tells of keys.
 
 ghost use Rattle.std.specs.Prelude.{◌≡◌, ◌<◌, Ok, Some, None, IfOk, IfErr, OnOk, MatchResult, map, vec_items};
-ghost use Rattle.std.specs.List.{flat_map};
-ghost use Rattle.std.specs.Io.KnownBytes.{Appends};
-ghost use Rattle.csv.specs.Writing.{text_written};
-ghost use Rattle.hh_rows.specs.Rows.{IsBetweenRows};
-ghost use Rattle.hh_commands.specs.Ask.{answer_of, answer_row, answers_in, slack_of};
-ghost use Rattle.hh_commands.specs.Ask.{asked_value, bad_key, bounds_row, key_fault};
+ghost use Rattle.hh_rows.specs.Outputs.{rows_in, with_row};
+ghost use Rattle.hh_commands.specs.Ask.{answer_fields, answer_of, answers_in, slack_of};
+ghost use Rattle.hh_commands.specs.Ask.{asked_value, bad_key, bound_columns, bounds_fields};
+ghost use Rattle.hh_commands.specs.Ask.{key_fault};
 ghost use Rattle.hh_commands.specs.Files.{Refuses, StopsAtHead, file_of};
 
 use crate::files::file_of;
-use csv::{Writer, WriterBuilder};
 use hh_faults::{KeyCause, ToolError};
 use hh_records::pointed;
+use hh_rows::{Names, Output, RowWriter};
 use hh_saved::Saved;
 use hh_stream::{Key, MAX_KEY_LEN};
 use std::alloc::{AllocError, Global};
+
+/// The columns of keys and their bounds.
+pub(crate) const BOUNDS: Names = &[b"key", b"low", b"high"];
 
 /// Tests whether `word` can be a key, which has 1 to 4,096 bytes. If not, the error is
 /// [`ToolError::BadKey`] with this `number`.
@@ -79,25 +80,18 @@ pub fn answer_of(saved: &Saved, slack: u64, key: &Key) -> (u64, u64)
 
 /// Writes the row of a key and its two numbers after the others, with `decimals` digits after the
 /// point.
-pub(crate) fn write_bounds(
+pub(crate) fn push_bounds(
     alloc: Global,
-    writer: &mut Writer<Vec<u8>>,
+    rows: &mut RowWriter,
     key: &Key,
     bounds: (u64, u64),
     decimals: u8,
 ) -> Result<(), AllocError>
-    requires { IsBetweenRows writer.old }
-    ensures between { OnOk result (IsBetweenRows writer.new) }
-    ensures text { OnOk result (Appends
-        (text_written (λ text. Some text.items) writer.old)
-        (text_written (λ text. Some text.items) writer.new)
-        (bounds_row decimals key.now bounds)) }
+    ensures { OnOk result (rows.new ≡ with_row rows.old (bounds_fields decimals key.now bounds)) }
 {
     let low = pointed(alloc, u128::from(bounds.0), decimals)?;
     let high = pointed(alloc, u128::from(bounds.1), decimals)?;
-    writer
-        .write_fields(&[key.bytes(), low.as_slice(), high.as_slice()])
-        .map_err(|_| AllocError)
+    rows.push(alloc, &[key.bytes(), low.as_slice(), high.as_slice()])
 }
 
 /// Makes a row `key,low,high` for each of `words`, in order. All must have passed [`check_key`].
@@ -105,27 +99,27 @@ fn answers_text(
     alloc: Global,
     saved: &Saved,
     words: &[Vec<u8>],
-    decimals: u8,
+    output: &Output,
 ) -> Result<Vec<u8>, AllocError>
     requires { bad_key 1 (map vec_items words.now) ≡ None }
-    ensures { IfOk result (λ text.
-        text.items ≡ flat_map (λ word. answer_row decimals saved.now word.items) words.now) }
+    ensures { IfOk result (λ text. text.items ≡ rows_in output.now bound_columns
+        (λ word. answer_fields output.now saved.now word.items) words.now) }
 {
     let slack = slack_of(saved);
-    let mut writer = WriterBuilder::new().from_writer(Vec::new(alloc));
+    let mut rows = RowWriter::new(alloc, output, BOUNDS)?;
     for word in words {
         let key = Key::of_bytes(alloc, word)?;
         let answer = answer_of(saved, slack, &key);
-        write_bounds(alloc, &mut writer, &key, answer, decimals)?;
+        push_bounds(alloc, &mut rows, &key, answer, output.decimals)?;
     }
-    writer.into_inner().map_err(|_| AllocError)
+    rows.into_text()
 }
 
-/// What a saved file tells of keys: for each, in order, a row `key,low,high` as `csv` writes it,
-/// ended by a line feed. The key's weight in the stream is at least `low` and at most `high`. Of a
+/// What a saved file tells of keys: for each, in order, a row `key,low,high`, written as `output`
+/// says. The key's weight in the stream is at least `low` and at most `high`. Of a
 /// counter summary these are the key's counter, and that and the summary's slack; of a table 0 and
-/// the key's estimate. Each number has `decimals` digits after the point: those that the
-/// file's records were read with, which it doesn't keep.
+/// the key's estimate. The file doesn't keep how many digits after the point its records were read
+/// with, so `output` says it again.
 ///
 /// The file is tested first ([`ToolError::BadFile`], as file 1), and then the keys in order
 /// ([`ToolError::BadKey`], numbered from 1), before any row is made.
@@ -133,14 +127,14 @@ pub fn ask_rows(
     alloc: Global,
     file: &[u8],
     keys: &[Vec<u8>],
-    decimals: u8,
+    output: &Output,
 ) -> Result<Vec<u8>, ToolError>
     ensures rows { IfOk result (λ text.
-        answers_in decimals file.now (map vec_items keys.now) ≡ Ok text.items) }
+        answers_in output.now file.now (map vec_items keys.now) ≡ Ok text.items) }
     ensures refused { IfErr result (λ fault.
-        Refuses (answers_in decimals file.now (map vec_items keys.now)) fault) }
+        Refuses (answers_in output.now file.now (map vec_items keys.now)) fault) }
     ensures early { StopsAtHead 1 file.now result }
 {
     let saved = read_for_keys(alloc, file, keys)?;
-    Ok(answers_text(alloc, &saved, keys, decimals)?)
+    Ok(answers_text(alloc, &saved, keys, output)?)
 }

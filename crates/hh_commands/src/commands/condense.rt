@@ -4,10 +4,9 @@ ghost use Rattle.std.specs.Prelude.{◌≡◌, ◌<◌, ◌^◌, List, IfOk, IfE
 ghost use Rattle.std.specs.Map.{keys_of};
 ghost use Rattle.hh_stream.specs.Weights.{Entry, total_of};
 ghost use Rattle.hh_counters.specs.Condensed.{condensed, free_name, other_name};
-ghost use Rattle.hh_pieces.specs.Texts.{records_known};
-ghost use Rattle.hh_rows.specs.Rows.{condensed_by};
+ghost use Rattle.hh_rows.specs.Rows.{condensed_in};
 ghost use Rattle.hh_commands.specs.Bounds.{ComparesBounds, TellsOutside};
-ghost use Rattle.hh_commands.specs.Condense.{AboveRefused, CondensePartRefused, CondensesRows, TellsAbove};
+ghost use Rattle.hh_commands.specs.Condense.{AboveRefused, CondensePartRefused, CondensesIn, TellsAbove};
 ghost use Rattle.hh_commands.specs.Files.{StopsAtHead};
 ghost use Rattle.hh_commands.specs.Records.{IsCountOf};
 
@@ -17,13 +16,11 @@ use crate::files::summary_in;
 use hh_counters::laws::{condensed_is_counted, free_name_is_first};
 use hh_counters::{Candidates, Counts, Heavy, Summary};
 use hh_faults::ToolError;
-use hh_pieces::Records;
 use hh_records::ReadRecords;
-use hh_rows::condensed_rows_text;
+use hh_rows::{Output, condensed_text};
 use hh_stream::Key;
 use itoa::Buffer;
 use std::alloc::{AllocError, Global};
-use std::io::Read;
 
 /// Name number i for the keys without a counter: `others` and the digits of i, where 0 has none.
 fn other_name(alloc: Global, number: u64) -> Result<Key, AllocError>
@@ -89,36 +86,36 @@ pub fn condensed_rows(
     Ok(rows)
 }
 
-/// The condensed rows of counted items as text, in units of 10^-decimals.
+/// The condensed rows of counted items as text, written as `output` says.
 pub fn condensed_counts(
     alloc: Global,
     summary: &Summary,
     counts: &Counts,
-    decimals: u8,
+    output: &Output,
 ) -> Result<Vec<u8>, AllocError>
     requires counted { (xs : List Entry) × IsCountOf (keys_of summary.now.counters) xs counts.now }
     ensures { IfOk result (λ text. (xs : List Entry)
         → IsCountOf (keys_of summary.now.counters) xs counts.now
-        → text.items ≡ condensed_by decimals (condensed summary.now.counters xs)) }
+        → text.items ≡ condensed_in output.now (condensed summary.now.counters xs)) }
 {
     let rows = condensed_rows(alloc, summary, counts)?;
-    condensed_rows_text(alloc, &rows, decimals)
+    condensed_text(alloc, &rows, output)
 }
 
-/// The condensed rows of counted items as text, in units of 10^-decimals. Each key's weight is
+/// The condensed rows of counted items as text, written as `output` says. Each key's weight is
 /// compared with its higher bound. `compared` says whether a key above that refuses the rows; such
 /// a key is left there.
 pub fn condensed_part(
     alloc: Global,
     summary: &Summary,
     counts: &Counts,
-    decimals: u8,
+    output: &Output,
     compared: &mut Comparison,
 ) -> Result<Vec<u8>, ToolError>
     requires counted { (xs : List Entry) × IsCountOf (keys_of summary.now.counters) xs counts.now }
     ensures rows { IfOk result (λ text. (xs : List Entry)
         → IsCountOf (keys_of summary.now.counters) xs counts.now
-        → text.items ≡ condensed_by decimals (condensed summary.now.counters xs)) }
+        → text.items ≡ condensed_in output.now (condensed summary.now.counters xs)) }
     ensures bounds { IfOk result (λ _. (xs : List Entry)
         → IsCountOf (keys_of summary.now.counters) xs counts.now
         → TellsOutside compared.old.refuses Bounds.High summary.now xs compared.new.outside) }
@@ -130,19 +127,37 @@ pub fn condensed_part(
     if compared.refuses && compared.outside.is_some() {
         return Err(ToolError::WeightOutside);
     }
-    Ok(condensed_counts(alloc, summary, counts, decimals)?)
+    Ok(condensed_counts(alloc, summary, counts, output)?)
 }
 
-/// [`condense_bytes_from`] of any records, with as many digits after the point as `decimals` says.
-pub fn condensed_records<R: ReadRecords>(
+/// Records that say the same to [`confirm_rows`](crate::confirm_rows) with the same file as these
+/// do, at most one more than the summary has keys: each key of the summary that comes, with its
+/// weight, by rising key, and then, where other keys come, one record of what they weigh. Its key
+/// is the first of `others`, `others1`, `others2` and so on that is no key of the summary.
+///
+/// So parts of a stream may be condensed one by one by the summary of the whole, and their
+/// condensed records joined in any order, as CSV. The rows are as
+/// [`report_text`](hh_rows::report_text) writes them, but that the first key is in quotes where it
+/// begins with the three bytes of a byte order mark.
+///
+/// The file is tested first ([`ToolError::BadFile`], as file 1, and [`ToolError::NotCounters`]),
+/// and then the records, whose total need not be the summary's. Then the weight of each of the
+/// summary's keys is compared with the higher of its bounds, which
+/// [`ask_rows`](crate::ask_rows) tells: in a part of the records that were summarised no key is
+/// above it. A key that is above is left in `compared`, and is a fault
+/// ([`ToolError::WeightOutside`]) where `compared` says that it refuses.
+///
+/// The condensed records are a key and a weight each, whatever columns these had, written as
+/// `output` says. The digits after the point are to be those that these were read with.
+pub fn condense_bytes_from<R: ReadRecords>(
     alloc: Global,
     file: &[u8],
     records: R,
-    decimals: u8,
+    output: &Output,
     compared: &mut Comparison,
 ) -> Result<Vec<u8>, ToolError>
     ensures rows { IfOk result (λ rows.
-        CondensesRows decimals file.now (R.known records) rows.items) }
+        CondensesIn output.now file.now (R.known records) rows.items) }
     ensures bounds { OnOk result (ComparesBounds compared.old.refuses Bounds.High file.now
         (R.known records) compared.new.outside) }
     ensures refused { IfErr result (λ fault.
@@ -154,45 +169,5 @@ pub fn condensed_records<R: ReadRecords>(
     let summary = summary_in(alloc, file)?;
     let candidates = Candidates::with_hasher(alloc, &summary, records.hash())?;
     let counts = count_records(alloc, &candidates, records)?;
-    condensed_part(alloc, &summary, &counts, decimals, compared)
-}
-
-/// Records that say the same to [`confirm_rows`](crate::confirm_rows) with the same file as these
-/// do, at most one more than the summary has keys: each key of the summary that comes, with its
-/// weight, by rising key, and then, where other keys come, one record of what they weigh. Its key
-/// is the first of `others`, `others1`, `others2` and so on that is no key of the summary.
-///
-/// So parts of a stream may be condensed one by one by the summary of the whole, and their
-/// condensed records joined in any order. The rows are as [`report_text`](hh_rows::report_text)
-/// writes them, but that the first key is in quotes where it begins with the three bytes of a byte
-/// order mark.
-///
-/// The file is tested first ([`ToolError::BadFile`], as file 1, and [`ToolError::NotCounters`]),
-/// and then the records, whose total need not be the summary's. Then the weight of each of the
-/// summary's keys is compared with the higher of its bounds, which
-/// [`ask_rows`](crate::ask_rows) tells: in a part of the records that were summarised no key is
-/// above it. A key that is above is left in `compared`, and is a fault
-/// ([`ToolError::WeightOutside`]) where `compared` says that it refuses.
-///
-/// The condensed records are a key and a weight each, whatever columns these had, with as many
-/// digits after the point as these may have.
-pub fn condense_bytes_from<R: Read + Drop>(
-    alloc: Global,
-    file: &[u8],
-    records: Records<R>,
-    compared: &mut Comparison,
-) -> Result<Vec<u8>, ToolError>
-    ensures rows { IfOk result (λ rows.
-        CondensesRows records.layout.decimals file.now
-        (records_known R.remaining records) rows.items) }
-    ensures bounds { OnOk result (ComparesBounds compared.old.refuses Bounds.High file.now
-        (records_known R.remaining records) compared.new.outside) }
-    ensures refused { IfErr result (λ fault. CondensePartRefused compared.old.refuses file.now
-        (records_known R.remaining records) fault) }
-    ensures explained { IfErr result (λ fault.
-        TellsAbove file.now (records_known R.remaining records) compared.new fault) }
-    ensures early { StopsAtHead 1 file.now result }
-{
-    let decimals = records.layout.decimals;
-    condensed_records(alloc, file, records, decimals, compared)
+    condensed_part(alloc, &summary, &counts, output, compared)
 }

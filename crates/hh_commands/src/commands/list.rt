@@ -1,16 +1,15 @@
 //! The keys of a saved summary, with what it tells of each.
 
 ghost use Rattle.std.specs.Prelude.{◌≡◌, ◌≤◌, IfOk, IfErr};
-ghost use Rattle.std.specs.List.{flat_map};
 ghost use Rattle.hh_stream.specs.Weights.{total_of};
 ghost use Rattle.hh_commands.specs.Files.{StopsAtHead, SummaryRefused};
-ghost use Rattle.hh_commands.specs.List.{ListsRows, entry_row};
+ghost use Rattle.hh_commands.specs.List.{ListsIn, entry_rows};
 
-use crate::commands::ask::write_bounds;
+use crate::commands::ask::{BOUNDS, push_bounds};
 use crate::files::summary_in;
-use csv::WriterBuilder;
 use hh_counters::Summary;
 use hh_faults::ToolError;
+use hh_rows::{Output, RowWriter};
 use hh_stream::Key;
 use std::alloc::{AllocError, Global};
 
@@ -19,25 +18,19 @@ fn entries_text(
     alloc: Global,
     summary: &Summary,
     entries: &[(Key, u64)],
-    decimals: u8,
+    output: &Output,
 ) -> Result<Vec<u8>, AllocError>
     requires { total_of entries.now ≤ total_of summary.now.counters }
-    ensures { IfOk result (λ text.
-        text.items ≡ flat_map (entry_row decimals summary.now) entries.now) }
+    ensures { IfOk result (λ text. text.items ≡ entry_rows output.now summary.now entries.now) }
 {
     let slack = summary.slack();
     prove!(summary.sum() <= summary.total());
-    let mut writer = WriterBuilder::new().from_writer(Vec::new(alloc));
+    let mut rows = RowWriter::new(alloc, output, BOUNDS)?;
     for (key, counter) in entries {
-        write_bounds(
-            alloc,
-            &mut writer,
-            key,
-            (*counter, *counter + slack),
-            decimals,
-        )?;
+        let bounds = (*counter, *counter + slack);
+        push_bounds(alloc, &mut rows, key, bounds, output.decimals)?;
     }
-    writer.into_inner().map_err(|_| AllocError)
+    rows.into_text()
 }
 
 /// What a saved summary tells of all its keys: for each key with a counter a row `key,low,high`,
@@ -46,12 +39,12 @@ fn entries_text(
 ///
 /// Other files are refused, as file 1 ([`ToolError::BadFile`]), and then those of another kind
 /// ([`ToolError::NotCounters`]).
-pub fn list_rows(alloc: Global, file: &[u8], decimals: u8) -> Result<Vec<u8>, ToolError>
-    ensures rows { IfOk result (λ rows. ListsRows decimals file.now rows.items) }
+pub fn list_rows(alloc: Global, file: &[u8], output: &Output) -> Result<Vec<u8>, ToolError>
+    ensures rows { IfOk result (λ rows. ListsIn output.now file.now rows.items) }
     ensures refused { IfErr result (λ fault. SummaryRefused file.now fault) }
     ensures early { StopsAtHead 1 file.now result }
 {
     let summary = summary_in(alloc, file)?;
     let ranked = summary.ranked()?;
-    Ok(entries_text(alloc, &summary, &ranked, decimals)?)
+    Ok(entries_text(alloc, &summary, &ranked, output)?)
 }

@@ -14,6 +14,7 @@ use crate::items::count_items;
 use hh_commands::{condensed_counts, summary_in};
 use hh_counters::{Candidates, Summary, is_threshold};
 use hh_faults::ToolError;
+use hh_rows::Output;
 use hh_stream::KeyHash;
 use std::alloc::Global;
 
@@ -54,7 +55,7 @@ fn condensed_items_text(
 {
     let candidates = Candidates::with_hasher(alloc, summary, hash)?;
     let counts = count_items(alloc, &candidates, items)?;
-    Ok(condensed_counts(alloc, summary, &counts, 0)?)
+    Ok(condensed_counts(alloc, summary, &counts, &Output::plain(0))?)
 }
 
 /// The share above which keys are confirmed.

@@ -13,12 +13,12 @@ ghost use Rattle.hh_commands.specs.Files.{StopsAtHead};
 ghost use Rattle.hh_library.specs.LaidOut.{AddRecordsRefused, AddsRecords, CondenseBoundedRefused};
 ghost use Rattle.hh_library.specs.LaidOut.{CondensesBounded, ConfirmBoundedRefused};
 ghost use Rattle.hh_library.specs.LaidOut.{ConfirmsBounded, ReportsRows, bad_report};
-ghost use Rattle.hh_library.specs.LaidOut.{rows_in_units, text_laid};
+ghost use Rattle.hh_library.specs.LaidOut.{text_laid};
 
 use crate::accumulator::Accumulator;
 use crate::commands::count_items::share_or_least;
 use hh_commands::{
-    Comparison, condensed_records, confirmed_text, count_records, rows_above,
+    Comparison, condense_bytes_from, confirmed_text, count_records, rows_above,
     summary_by_monitoring, summary_in,
 };
 use hh_counters::laws::{candidates_suffice, misra_gries_is_honest};
@@ -26,7 +26,7 @@ use hh_counters::{Candidates, Heavy, MAX_K};
 use hh_faults::{TextError, ToolError};
 use hh_pieces::read_texts;
 use hh_records::{Layout, ReadRecords};
-use hh_rows::{RowOptions, printed_text};
+use hh_rows::{Output, RowOptions, printed_text};
 use hh_stream::{KeyHash, Stream, TakeItems, in_range};
 use std::alloc::{AllocError, Global};
 
@@ -87,17 +87,6 @@ pub fn add_records<R: ReadRecords>(
     value.add_items(alloc, &items)
 }
 
-/// All rows with this many digits of a weight after its point, and no shares.
-pub(crate) fn rows_in_units(decimals: u8) -> RowOptions
-    ensures { result ≡ rows_in_units decimals }
-{
-    RowOptions {
-        top: None,
-        share: false,
-        decimals,
-    }
-}
-
 /// The rows of a saved summary's keys above a share of the total of some records, which are those
 /// that were summarised, with `decimals` digits of a weight after its point. Without a share it
 /// is 1/(k + 1), the least for the summary's k.
@@ -124,7 +113,7 @@ pub fn confirm_bounded<R: ReadRecords>(
     };
     let candidates = Candidates::with_hasher(alloc, &summary, records.hash())?;
     let counts = count_records(alloc, &candidates, records)?;
-    let rows = rows_in_units(decimals);
+    let rows = RowOptions::all(Output::plain(decimals));
     let mut compared = Comparison::new(true);
     confirmed_text(alloc, &summary, share, &rows, &counts, &mut compared)
 }
@@ -147,8 +136,9 @@ pub fn condense_bounded<R: ReadRecords>(
     ensures refused { IfErr result (CondenseBoundedRefused file.now (R.known records)) }
     ensures early { StopsAtHead 1 file.now result }
 {
+    let output = Output::plain(decimals);
     let mut compared = Comparison::new(true);
-    condensed_records(alloc, file, records, decimals, &mut compared)
+    condense_bytes_from(alloc, file, records, &output, &mut compared)
 }
 
 /// The total of a text's records, and their keys above p/q of it, of which k counters miss none.
@@ -203,6 +193,6 @@ pub fn report_bytes(
         return Err(ToolError::BadThreshold);
     };
     let (total, keys) = heavy_keys(alloc, k, share, layout, text)?;
-    let rows = rows_in_units(layout.decimals);
+    let rows = RowOptions::all(Output::plain(layout.decimals));
     Ok(printed_text(alloc, total, &rows, &keys)?)
 }

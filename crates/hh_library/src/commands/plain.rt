@@ -22,6 +22,7 @@ use hh_commands::{
 };
 use hh_faults::ToolError;
 use hh_pieces::Records;
+use hh_rows::Output;
 use std::alloc::Global;
 use std::io::Read;
 
@@ -61,14 +62,14 @@ pub fn table_bytes<R: Read + Drop>(
     table_bytes_from(alloc, width, depth, seed, Records::of_reader(alloc, reader))
 }
 
-/// [`ask_rows`](hh_commands::ask_rows) with whole numbers.
+/// [`ask_rows`](hh_commands::ask_rows) as CSV, in whole numbers.
 pub fn ask_bytes(alloc: Global, file: &[u8], keys: &[Vec<u8>]) -> Result<Vec<u8>, ToolError>
     ensures rows { IfOk result (λ text. answers file.now (map vec_items keys.now) ≡ Ok text.items) }
     ensures refused { IfErr result (λ fault.
         Refuses (answers file.now (map vec_items keys.now)) fault) }
     ensures early { StopsAtHead 1 file.now result }
 {
-    ask_rows(alloc, file, keys, 0)
+    ask_rows(alloc, file, keys, &Output::plain(0))
 }
 
 /// [`condense_bytes_from`](hh_commands::condense_bytes_from) of the records of a reader, where a
@@ -85,7 +86,8 @@ pub fn condense_bytes<R: Read + Drop>(
     ensures early { StopsAtHead 1 file.now result }
 {
     let records = Records::of_reader(alloc, reader);
-    condense_bytes_from(alloc, file, records, &mut Comparison::new(false))
+    let output = Output::plain(0);
+    condense_bytes_from(alloc, file, records, &output, &mut Comparison::new(false))
 }
 
 /// The report text of the saved summary's keys that are heavy in the stream of the reader's

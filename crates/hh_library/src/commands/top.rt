@@ -8,12 +8,12 @@ ghost use Rattle.hh_records.specs.Refusals.{RecordsRefused};
 ghost use Rattle.hh_records.specs.Streams.{ReadsAs};
 ghost use Rattle.hh_library.specs.LaidOut.{GivesTop, TalliesText, TopIsRefused, text_laid};
 
-use crate::commands::laid_out::{TextRecords, rows_in_units};
+use crate::commands::laid_out::TextRecords;
 use hh_commands::count_records;
 use hh_counters::Heavy;
 use hh_faults::ToolError;
 use hh_records::{Layout, ReadRecords, gather_in_turn};
-use hh_rows::printed_text;
+use hh_rows::{Output, RowOptions, printed_text};
 use hh_stream::TakeItems;
 use hh_tally::Tally;
 use hh_tally::laws::tallies_bound_weights;
@@ -86,6 +86,6 @@ pub fn top_bytes(
     let records = TextRecords { layout, text };
     let list = shortlist_of(alloc, n, memory, records)?;
     let keys = greatest_of(alloc, &list, records)?;
-    let rows = rows_in_units(layout.decimals);
+    let rows = RowOptions::all(Output::plain(layout.decimals));
     Ok(printed_text(alloc, list.tally().total(), &rows, &keys)?)
 }

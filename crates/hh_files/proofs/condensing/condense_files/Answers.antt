@@ -9,7 +9,7 @@ pub returns-clause-rows : goal.returns-clause-rows
 returns-clause-rows g c =
     let counted = rw c.in_ok-candidates.ensures.keys at c.in_ok-counts.ensures.counts in
     rows_condensed _ (sources_known g.S.ReadAt.bytes c.args.records) c.in_ok-summary.summary
-    c.in_ok-summary.ensures.summary c.in_ok-counts.counts counted c.args.records.layout.now.decimals
+    c.in_ok-summary.ensures.summary c.in_ok-counts.counts counted c.args.output.now
     c.condensed_part.result c.condensed_part.ensures.rows
 
 pub returns-clause-refused : goal.returns-clause-refused

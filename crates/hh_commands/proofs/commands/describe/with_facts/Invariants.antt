@@ -1,11 +1,7 @@
-use Rattle.std.proofs.Common.{◌≡◌, ◌++◌, Some, take}
-use Rattle.std.specs.List.{flat_map}
-use Rattle.csv.specs.Writing.{text_written}
-use Rattle.hh_rows.specs.Rows.{IsBetweenRows}
-use Rattle.hh_commands.specs.Describe.{fact_row}
+use Rattle.std.proofs.Common.{◌≡◌, take}
+use Rattle.hh_rows.specs.Outputs.{with_rows}
+use Rattle.hh_commands.specs.Describe.{fact_fields}
 use Rattle.hh_commands.proofs.commands.describe.with_facts.Given as goal
 
 abbrev pub invariant-loop-name : goal.invariant-loop-name
-invariant-loop-name l = IsBetweenRows l.writer
-    × (text_written (λ text. Some text.items) l.writer
-    ≡ Some (l.fn.text.items ++ flat_map (λ f. fact_row (f.0.now, f.1)) (take l.name-index l.facts)))
+invariant-loop-name l = l.rows ≡ with_rows l.fn.head (λ f. fact_fields (f.0.now, f.1)) (take l.name-index l.facts)

@@ -9,12 +9,12 @@ pub returns-clause-rows : goal.returns-clause-rows
 returns-clause-rows g c =
     condenses_bounded (λ v. v.items) c.args.file.now (g.R.ReadRecords.known c.args.records) c.new-compared.result.refuses
     (ap (λ (n : Comparison). n.refuses) c.new-compared.ensures) c.args.decimals
-    c.condensed_records.new.compared.outside c.condensed_records.result c.condensed_records.ensures.rows
-    c.condensed_records.ensures.bounds
+    c.condense_bytes_from.new.compared.outside c.condense_bytes_from.result (rw c.plain-output.ensures at c.condense_bytes_from.ensures.rows)
+    c.condense_bytes_from.ensures.bounds
 
 pub returns-clause-refused : goal.returns-clause-refused
 returns-clause-refused g c =
     let asked : c.new-compared.result.refuses ≡ true = ap (λ (n : Comparison). n.refuses) c.new-compared.ensures in
-    subst (λ refuses. IfErr c.condensed_records.result
+    subst (λ refuses. IfErr c.condense_bytes_from.result
     (CondensePartRefused refuses c.args.file.now (g.R.ReadRecords.known c.args.records))) asked
-    c.condensed_records.ensures.refused
+    c.condense_bytes_from.ensures.refused

@@ -5,6 +5,7 @@ use Rattle.hh_commands.proofs.BoundsFacts.{rows_refused}
 use Rattle.hh_commands.specs.Confirm.{CompareAboveRefused}
 use Rattle.hh_commands.specs.Files.{RefusedFrom}
 use Rattle.hh_commands.specs.declared.compared.Comparison.{Comparison}
+use Rattle.hh_rows.specs.Printed.{all_rows}
 use Rattle.hh_library.specs.CountItems.{share_or_least}
 use Rattle.hh_library.proofs.BoundedFacts.{confirms_bounded}
 use Rattle.hh_library.proofs.commands.laid_out.confirm_bounded.Goals as goal
@@ -16,7 +17,7 @@ returns-clause-rows g c =
     (ap (λ (n : Comparison). n.refuses) c.new-compared.ensures) c.args.decimals c.confirmed_text.new.compared.outside
     c.in_ok-summary.summary c.in_ok-summary.ensures.summary c.in_ok-counts.counts counted
     c.args.share c.in-Some.share (rw c.k.ensures.k at (sym c.share_or_least.ensures.share ∙ c.in-Some.is))
-    c.rows_in_units-rows.result c.rows_in_units-rows.ensures c.confirmed_text.result c.confirmed_text.ensures.total
+    c.all-rows.result (c.all-rows.ensures ∙ ap all_rows c.plain.ensures) c.confirmed_text.result c.confirmed_text.ensures.total
     c.confirmed_text.ensures.rows c.confirmed_text.ensures.bounds
 
 pub returns-clause-refused : goal.returns-clause-refused

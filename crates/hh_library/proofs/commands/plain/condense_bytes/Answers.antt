@@ -9,12 +9,8 @@ use Rattle.hh_library.proofs.commands.plain.condense_bytes.Goals as goal
 
 pub returns-clause-rows : goal.returns-clause-rows
 returns-clause-rows g c =
-    subst (λ d. IfOk c.condense_bytes_from.result (λ rows. CondensesRows d c.args.file.now
-    (text_known (g.R.Read.remaining c.args.reader)) rows.items))
-    c.of_reader-records.ensures.whole
-    (subst (λ known. IfOk c.condense_bytes_from.result
-    (λ rows. CondensesRows c.of_reader-records.result.layout.decimals c.args.file.now known rows.items))
-    c.of_reader-records.ensures.known c.condense_bytes_from.ensures.rows)
+    subst (λ known. IfOk c.condense_bytes_from.result (λ rows. CondensesRows 0 c.args.file.now known rows.items))
+    c.of_reader-records.ensures.known (rw c.plain-output.ensures at c.condense_bytes_from.ensures.rows)
 
 pub returns-clause-refused : goal.returns-clause-refused
 returns-clause-refused g c =

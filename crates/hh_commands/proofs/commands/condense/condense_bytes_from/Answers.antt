@@ -1,7 +1,7 @@
 use Rattle.std.proofs.lemmas.Result.{MatchResult-weaker}
 use Rattle.hh_commands.specs.declared.compared.Bounds.TheVariants as bounds
 use Rattle.hh_commands.proofs.BoundsFacts.{part_compared, part_refused, part_told}
-use Rattle.hh_commands.proofs.commands.condense.condensed_records.Goals as goal
+use Rattle.hh_commands.proofs.commands.condense.condense_bytes_from.Goals as goal
 
 pub returns-clause-bounds : goal.returns-clause-bounds
 returns-clause-bounds g c =
