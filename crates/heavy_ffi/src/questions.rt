@@ -16,6 +16,7 @@ use crate::room::{Bounds, DONE, USAGE, all_bounds, answer, answer_nothing};
 use hh_commands::list_rows;
 use hh_faults::ToolError;
 use hh_library::{Accumulator, list_entries};
+use hh_rows::Output;
 use hh_saved::Place;
 use std::alloc::Global;
 
@@ -142,7 +143,7 @@ pub extern "C" fn proved_list(
     ensures no_bytes { result ≢ 0 → result ≢ 5 → needed.new ≡ 0 }
 {
     match heavy.saved(alloc) {
-        Some(Ok(file)) => answer(list_rows(alloc, &file, 0), out, needed, fault),
+        Some(Ok(file)) => answer(list_rows(alloc, &file, &Output::plain(0)), out, needed, fault),
         Some(Err(refusal)) => answer(Err(refusal), out, needed, fault),
         None => answer_nothing(needed, fault),
     }
