@@ -83,9 +83,9 @@ MakesInOnePass pass.Confirm asked file refuses outside known bytes =
     Confirms file asked.options.threshold asked.rows refuses outside known bytes
 
 -- where records are read once the first holds, and else the second
-pub record IfOnce (once : Bool) (Once Again : Type 0) : Type 0 where
-  pub once : once ≡ true → Once
-  pub again : once ≡ false → Again
+pub record IfOnce (reads_once : Bool) (Once Again : Type 0) : Type 0 where
+  pub once : reads_once ≡ true → Once
+  pub again : reads_once ≡ false → Again
 
 -- these are the rows of the report of the records: they are read once, as is asked for or for a plan, or they may be read again
 abbrev pub PrintsReport : Asked → Known → List ℕ → Type 0
