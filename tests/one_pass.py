@@ -71,6 +71,7 @@ class OnePass(programs.Checks):
             "confirm FILE": lambda of: ["confirm", "--workers", "2", f"{self.room}/{of}", f"{self.room}/{of}.csv"],
             "report": lambda of: ["report", "--workers", "2", f"{self.room}/{of}.csv"],
             "report of a pipe": lambda of: ["report", "--workers", "2", "--memory", "0"],
+            "report --once": lambda of: ["report", "--once", "--memory", "1"],
         }
         for name, words in commands.items():
             ample = programs.run([program, *words("many")], many)
@@ -86,6 +87,8 @@ class OnePass(programs.Checks):
             self.check(f"{name} of a file as of standard input", here.out == there.out, (here.status, here.err))
         rows = programs.run([program, *commands["report"]("many")]).out
         self.check("the heavy key of a file", rows == b"heavy,%d\n" % (MANY // 100 * 7), rows)
+        rows = programs.run([program, *commands["report --once"]("many")], many).out
+        self.check("the heavy key by one reading", rows == b"heavy,%d\n" % (MANY // 100 * 7), rows)
         rows = programs.run([program, *commands["confirm"]("many")], many).out
         self.check("the heavy key", rows == b"heavy,%d\n" % (MANY // 100 * 7), rows)
         fewer = programs.run([program, *commands["condense"]("many")], many).out
