@@ -12,7 +12,7 @@ use Rattle.hh_files.specs.Report.{AreOptions, StartRefused}
 use Rattle.hh_faults.specs.declared.error.ToolError.{ToolError}
 use Rattle.hh_faults.specs.declared.error.ToolError.TheVariants as tool
 
--- of the keys that can weigh more than p/q of the total by this tally, it isn't sure of so many, some, and of the others it is
+-- by this tally a key isn't certain that can weigh more than p/q of the total; how many of these are certain, and how many not
 pub record IsUncertain (p q : ℕ) (t : TallyView) (certain uncertain : ℕ) : Type 0 where
   pub some : 0 < uncertain
   pub count : uncertain ≡ length (unsure_of t (contenders_of p q t))
