@@ -8,7 +8,10 @@ pub returns-in-Report-clause-made : goal.returns-in-Report-clause-made
 returns-in-Report-clause-made g c = rw c.in-Report.is c.report.ensures.made
 
 pub returns-in-Report-clause-refused : goal.returns-in-Report-clause-refused
-returns-in-Report-clause-refused g c = rw c.in-Report.is c.report.ensures.refused
+returns-in-Report-clause-refused g c =
+    subst (λ verb. IfErr c.report.result (Fails (g.H.FileSource.gives c.args.host.now) (g.H.Host.opens c.args.host.now)
+    (g.H.Host.unopened c.args.host.now) verb c.args.asked.now c.args.compared.now.refuses)) (sym c.in-Report.is)
+    c.report.ensures.refused
 
 pub returns-in-Top-clause-made : goal.returns-in-Top-clause-made
 returns-in-Top-clause-made g c = rw c.in-Top.is c.top.ensures.made

@@ -1,16 +1,27 @@
-use Rattle.std.proofs.Common.{inl, inr}
+use Rattle.std.proofs.Common.{◌≡◌, ◌||◌, Bool, true, inl, inr, subst, sym}
 use Rattle.std.proofs.lemmas.Result.{err_from_is_err_and}
 use Rattle.hh_records.specs.Layouts.{texts_known}
-use Rattle.hh_pieces.specs.Texts.{records_known}
-use Rattle.heavy_answers.proofs.AnswerLemmas.{if_ok_more, of_records, read_again, read_once}
+use Rattle.heavy_answers.specs.Refusals.{ReportRefused}
+use Rattle.heavy_answers.proofs.AnswerLemmas.{begin_refused, either_holds, if_err_more, if_ok_more, neither_holds, of_records, of_records_more, read_again, read_once}
 use Rattle.heavy_answers.proofs.InputLemmas.{records_are_of}
 use Rattle.heavy_answers.proofs.answering.report.Goals as goal
+use Rattle.heavy_answers.proofs.answering.report.Goals.{then-asked-via-then-asked, then-asked-via-else-asked+then-asked-2}
 
 pub returns-then-asked-clause-made : goal.returns-then-asked-clause-made
 returns-then-asked-clause-made g c =
+    let asked = c.args.asked.now in
+    let reads : (asked.once || asked.by_plan) ≡ true =
+    elim c.then-asked.branch [
+      | then-asked-via-then-asked w ↦ either_holds asked.once asked.by_plan (inl w.if-asked.true)
+      | then-asked-via-else-asked+then-asked-2 w ↦ either_holds asked.once asked.by_plan (inr (w.if-asked.false, w.if-asked-2.true))
+    ] in
     if_ok_more c.report_in_turn.result
-    (λ bytes of. of_records _ _ _ of.layout of.known of.records (of.made.0, read_once _ c.if-asked.true of.made.1))
+    (λ bytes. of_records_more (g.H.Host.opens c.args.host.now) asked.records (λ known made. (made.0, read_once _ reads made.1)))
     c.report_in_turn.ensures.made
+
+pub returns-then-asked-clause-refused : goal.returns-then-asked-clause-refused
+returns-then-asked-clause-refused g c =
+    if_err_more c.report_in_turn.result (λ fault. begin_refused) c.report_in_turn.ensures.refused
 
 pub returns-in_err-bytes-clause-refused : goal.returns-in_err-bytes-clause-refused
 returns-in_err-bytes-clause-refused g c =
@@ -21,7 +32,9 @@ returns-in_err-bytes-clause-refused g c =
     (records_are_of (g.H.Host.opens c.args.host.now) c.args.asked.now.records opened.layout files.layout g.H.Host.text g.H.File.ReadAt.bytes
     opened.inputs.items files.files.items c.in_ok-files.ensures.layout c.in_ok-opened.ensures.layout c.in_ok-opened.ensures.opened
     c.in_ok-files.ensures.texts)
-    (rw (c.records.ensures.layout, c.records.ensures.sources) at c.in_err-bytes.ensures.refused)))
+    (subst (λ (once : Bool). ReportRefused once c.args.asked.now (texts_known g.H.File.ReadAt.bytes files.layout files.files.items)
+    c.in_err-bytes.field-0.0) (sym c.if-asked.false)
+    (rw (c.records.ensures.layout, c.records.ensures.sources) at c.in_err-bytes.ensures.refused))))
 
 pub returns-clause-made : goal.returns-clause-made
 returns-clause-made g c =
@@ -32,11 +45,11 @@ returns-clause-made g c =
     (records_are_of (g.H.Host.opens c.args.host.now) c.args.asked.now.records opened.layout files.layout g.H.Host.text g.H.File.ReadAt.bytes
     opened.inputs.items files.files.items c.in_ok-files.ensures.layout c.in_ok-opened.ensures.layout c.in_ok-opened.ensures.opened
     c.in_ok-files.ensures.texts)
-    (made.0, read_again _ c.if-asked.false made.1)
+    (made.0, read_again _ (neither_holds c.args.asked.now.once c.args.asked.now.by_plan c.if-asked.false c.if-asked-2.false) made.1)
 
 pub returns-in_err-opened-clause-refused : goal.returns-in_err-opened-clause-refused
 returns-in_err-opened-clause-refused g c =
-    let p = err_from_is_err_and c.from_residual-in_err-opened.result c.from_residual-in_err-opened.ensures.1 in
+    let p = err_from_is_err_and c.from_residual.result c.from_residual.ensures.1 in
     rw (p.1, p.2) (inl (inl c.in_err-opened.ensures.refused))
 
 pub returns-in_err-check_options-clause-refused : goal.returns-in_err-check_options-clause-refused

@@ -17,7 +17,7 @@ returns-then-asked-clause-refused g c =
     let known = records_known g.H.Reader.Read.remaining records in
     if_err_more c.report_once.result (λ fault fails. inr (of_records _ _ _ records.layout known c.in_ok-records.ensures.records
     (subst (λ (once : Bool). ReportRefused once c.args.asked.now known fault) (sym c.if-asked.true) fails)))
-    c.report_once.ensures.refused
+    (rw c.memory_bytes.ensures at c.report_once.ensures.refused)
 
 pub returns-else-asked-clause-made : goal.returns-else-asked-clause-made
 returns-else-asked-clause-made g c =

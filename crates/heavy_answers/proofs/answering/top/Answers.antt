@@ -14,7 +14,7 @@ returns-in_err-bytes-clause-refused g c =
     (records_are_of (g.H.Host.opens c.args.host.now) c.args.asked.now.records opened.layout files.layout g.H.Host.text g.H.File.ReadAt.bytes
     opened.inputs.items files.files.items c.in_ok-files.ensures.layout c.in_ok-opened.ensures.layout c.in_ok-opened.ensures.opened
     c.in_ok-files.ensures.texts)
-    (rw (c.records.ensures.layout, c.records.ensures.sources, c.saturating_mul.ensures) at c.in_err-bytes.ensures.refused)))))
+    (rw (c.records.ensures.layout, c.records.ensures.sources, c.memory_bytes.ensures) at c.in_err-bytes.ensures.refused)))))
 
 pub returns-clause-made : goal.returns-clause-made
 returns-clause-made g c =
