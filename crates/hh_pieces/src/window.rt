@@ -64,14 +64,15 @@ impl Window {
     }
 
     // Gets room for one byte more. The bytes are moved to the front where there are fewer of them
-    // than were removed before them. A full buffer gets twice as long, but no longer than `most`
-    // where that is enough.
+    // than were removed before them, or the buffer has `most` bytes. A full one gets twice as long,
+    // but no longer than `most` where that is enough.
     pub(crate) fn make_room(&mut self, most: usize) -> Result<(), AllocError>
         ensures held { OnOk result (held_in self.new ≡ held_in self.old) }
         ensures room { OnOk result (self.new.from + self.new.held
             < length self.new.bytes.items) }
     {
-        if self.held < self.from {
+        let is_full = self.from + self.held == self.bytes.len();
+        if self.held < self.from || is_full && most <= self.bytes.len() {
             self.move_to_front();
         }
         let len = self.bytes.len();
