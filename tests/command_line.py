@@ -244,7 +244,7 @@ class CommandLine(programs.Checks):
             else:
                 self.expect(words, (0, rows, b""), late)
         self.refuses(["report", "--explain", "--once", "--memory", "0", "--k", "2"], told % (0, "1 more key", 0), 3, few + b"late,9000\n")
-        self.refuses(["report", "--once", "--k", "0", "missing"], "file 1: could not be read", 1)
+        self.refuses(["report", "--once", "--k", "0", "missing"], "file 1: could not be read\n  missing: No such file or directory", 1)
         self.refuses(["report", "--once", "--k", "0"], "k must be 1 to 65535", 2)
         self.refuses(["report", "--once"], "record 2: zero weight", 3, b"a,5\nb,0\n")
 

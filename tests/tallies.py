@@ -137,13 +137,18 @@ class Tallies(programs.Checks):
             heavy = self.heavy("report", "--k", "1", *self.files([text + keys[0] + b",%d\n" % (count + 1)]))
             self.check(f"the heaviest of {count} keys", heavy == (0, keys[0] + b",%d\n" % (count + 2), b""), heavy)
 
-    def bytes_read(self, *words: str) -> tuple[int, bytes]:
-        """How many bytes the system counts as read by a run, and what it printed."""
+    def reads(self, *words: str) -> tuple[list[int], bytes]:
+        """How many bytes the system gave a run in each reading, and what it printed."""
         log = self.saved("log", b"")
         traced = ["strace", "-f", "-qq", "-e", "trace=read,pread64", "-o", log, self.program, *words]
         ended = programs.run(traced, env=dict(os.environ))
         results = [line.rpartition(b"= ")[2] for line in Path(log).read_bytes().splitlines()]
-        return sum(int(result) for result in results if result.isdigit()), ended.out
+        return [int(result) for result in results if result.isdigit()], ended.out
+
+    def bytes_read(self, *words: str) -> tuple[int, bytes]:
+        """How many bytes the system counts as read by a run, and what it printed."""
+        counts, out = self.reads(*words)
+        return sum(counts), out
 
     def want_strace(self) -> None:
         if not shutil.which("strace") or programs.run(["strace", "-qq", "-o", "/dev/null", "true"], env=dict(os.environ)).status != 0:
@@ -171,6 +176,14 @@ class Tallies(programs.Checks):
                 read, out = self.bytes_read(*words, "--workers", "1", *self.files([text]))
                 self.check(f"{words[0]} of {name}", out == rows, out)
                 self.check(f"{words[0]} reads {name} {times} times", times <= read / len(text) < times + 0.5, read / len(text))
+
+    def test_readings_of_long_records(self) -> None:
+        """A record that is longer than what is held of a text is read in large parts, whatever is held when it begins."""
+        self.want_strace()
+        for length in (17_000, 200_000):
+            text = b"".join(b"a,%s,3\n" % (b"x" * size) for size in (length, 300_000))
+            counts, out = self.reads("report", "--key", "1", "--weight", "3", "--no-quotes", "--pieces", "1", *self.files([text]))
+            self.check(f"a long record behind {length} bytes", out == b"a,6\n" and len(counts) < 100, (out, len(counts)))
 
     def test_readings_for_notes(self) -> None:
         """For notes nothing but the ends of a file is read again: with --explain one worker reads a long file once."""
