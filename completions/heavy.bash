@@ -14,7 +14,7 @@ _heavy() {
     -k | --k | -t | --threshold | -n | --top | -d | --delimiter | --key | --weight | --bad-as | --decimals | --until | --prefix | --workers | --memory | --pieces | --width | --depth | --seed) return ;;
   esac
   case ${COMP_WORDS[1]} in
-    report) options='-k --k -t --threshold -n --top --share --output --names --explain --progress -h --help -d --delimiter -H --header --key --weight --allow-zero --bad-as --decimals --until --prefix --no-quotes --squeeze --lines --json --workers --memory --pieces --tree --width --depth --seed' ;;
+    report) options='-k --k -t --threshold -n --top --share --output --names --once --explain --progress -h --help -d --delimiter -H --header --key --weight --allow-zero --bad-as --decimals --until --prefix --no-quotes --squeeze --lines --json --workers --memory --pieces --tree --width --depth --seed' ;;
     top) options='--share --output --names --workers --memory --explain --progress -h --help -d --delimiter -H --header --key --weight --allow-zero --bad-as --decimals --until --prefix --no-quotes --squeeze --lines --json' ;;
     summarise) options='-k --k --method --workers --explain --progress -h --help -d --delimiter -H --header --key --weight --allow-zero --bad-as --decimals --until --prefix --no-quotes --squeeze --lines --json' ;;
     table) options='--width --depth --seed --workers --explain --progress -h --help -d --delimiter -H --header --key --weight --allow-zero --bad-as --decimals --until --prefix --no-quotes --squeeze --lines --json' ;;
