@@ -40,6 +40,7 @@ UNPROVED = b"heavy: nothing is proved by this run, which is slow: it compiles th
 # what the lines of Python over these days give
 GIVEN = {
     "heavy.report('monday.csv', k=100)": "[Row(key=b'10.0.0.1', weight=5), Row(key=b'10.0.0.2', weight=1)]",
+    "heavy.top('monday.csv', 10)": "[Row(key=b'10.0.0.1', weight=5), Row(key=b'10.0.0.2', weight=1)]",
     "week.ask('10.0.0.1')": "(7, 7)",
     "week.top(1)": "[Bounds(key=b'10.0.0.1', low=7, high=7)]",
     "week.heavy_hitters('1/4', certain=True)": "[Bounds(key=b'10.0.0.1', low=7, high=7)]",
