@@ -1,5 +1,6 @@
-/* Each request for memory of each call refused in turn: the call answers HEAVY_MEMORY and leaves room and values as they were, until
-   one run meets no refusal and is done. This file's malloc, realloc and free are the library's. */
+/* Each request for memory of each call refused in turn: the call answers HEAVY_MEMORY and leaves room and values as they were, or
+   asks for less and answers as with ample memory, until one run meets no refusal and is done. This file's malloc, realloc and free
+   are the library's. */
 #include <stdio.h>
 #include <stdlib.h>
 #include <string.h>
@@ -111,38 +112,61 @@ static size_t saved(uint8_t *out, size_t size) {
     return len;
 }
 
-static int is_untouched(void) {
-    const uint8_t *rooms[] = {room, (const uint8_t *)bounds, (const uint8_t *)entries, (const uint8_t *)&info, (const uint8_t *)&one};
-    int same = 1;
-    for (size_t i = 0; i < sizeof rooms / sizeof *rooms; i++)
-        same = same && rooms[i][0] == 0xAA;
-    return same && made == NULL;
+/* What a call leaves: all rooms, and then the files of all values. */
+struct outcome {
+    size_t len;
+    uint8_t bytes[1024];
+};
+
+static struct outcome outcome(void) {
+    const struct {
+        const void *at;
+        size_t size;
+    } rooms[] = {{room, sizeof room}, {bounds, sizeof bounds}, {entries, sizeof entries}, {&info, sizeof info}, {&one, sizeof one}};
+    struct outcome all = {0};
+    for (size_t i = 0; i < sizeof rooms / sizeof *rooms; i++) {
+        memcpy(all.bytes + all.len, rooms[i].at, rooms[i].size);
+        all.len += rooms[i].size;
+    }
+    all.len += saved(all.bytes + all.len, sizeof all.bytes - all.len);
+    return all;
 }
 
-/* How many refusals the call met, after which the values are as they were; -1 where one was answered wrongly. */
+static int is_same(struct outcome a, struct outcome b) { return a.len == b.len && memcmp(a.bytes, b.bytes, a.len) == 0; }
+
+/* Makes all values anew, and fills the rooms. */
+static int begin_call(void) {
+    memset(room, 0xAA, sizeof room);
+    memset(bounds, 0xAA, sizeof bounds);
+    memset(&one, 0xAA, sizeof one);
+    memset(entries, 0xAA, sizeof entries);
+    memset(&info, 0xAA, sizeof info);
+    needed = 77;
+    return begin();
+}
+
+/* How many refusals the call met, after which all is as it was, or as the call leaves it; -1 where one was answered wrongly. */
 static int refusals_of(int which) {
-    static uint8_t before[512], after[512];
+    if (!begin_call())
+        return -1;
+    struct outcome before = outcome();
+    end();
+    if (!begin_call() || call(which) != HEAVY_DONE)
+        return -1;
+    struct outcome ample = outcome();
+    size_t number = needed;
+    end();
     for (int i = 0; i < 1000; i++) {
-        memset(room, 0xAA, sizeof room);
-        memset(bounds, 0xAA, sizeof bounds);
-        memset(&one, 0xAA, sizeof one);
-        memset(entries, 0xAA, sizeof entries);
-        memset(&info, 0xAA, sizeof info);
         long all = held;
-        if (!begin())
+        if (!begin_call())
             return -1;
         left = i;
         uint32_t status = call(which);
         int was_refused = left < 0;
         left = -1;
-        int right = !was_refused ? status == HEAVY_DONE
-                                 : status == HEAVY_MEMORY && told.kind == HEAVY_NO_MEMORY && is_untouched()
-                && (says_no_number(which) || needed == 0);
-        size_t len = saved(after, sizeof after);
-        end();
-        if (!begin())
-            return -1;
-        right = right && (!was_refused || (len == saved(before, sizeof before) && memcmp(before, after, len) == 0));
+        int right = status == HEAVY_DONE ? needed == number && is_same(outcome(), ample)
+                                         : was_refused && status == HEAVY_MEMORY && told.kind == HEAVY_NO_MEMORY && made == NULL
+                && (says_no_number(which) || needed == 0) && is_same(outcome(), before);
         end();
         if (!right || held != all)
             return -1;
