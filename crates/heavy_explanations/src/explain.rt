@@ -95,7 +95,9 @@ pub(crate) fn explain_open(rt: &HostRuntime, fault: &ToolError, asked: &Asked) {
         ToolError::TopUncertain { most, .. } => {
             tell_next(rt, *most, asked.records.layout.decimals, asked.memory);
         }
-        ToolError::ReportUncertain { uncertain, .. } => tell_uncertain(rt, *uncertain, asked.memory),
+        ToolError::ReportUncertain { uncertain, .. } => {
+            tell_uncertain(rt, *uncertain, asked.memory);
+        }
         _ => {}
     }
 }

@@ -143,7 +143,12 @@ pub extern "C" fn proved_list(
     ensures no_bytes { result ≢ 0 → result ≢ 5 → needed.new ≡ 0 }
 {
     match heavy.saved(alloc) {
-        Some(Ok(file)) => answer(list_rows(alloc, &file, &Output::plain(0)), out, needed, fault),
+        Some(Ok(file)) => answer(
+            list_rows(alloc, &file, &Output::plain(0)),
+            out,
+            needed,
+            fault,
+        ),
         Some(Err(refusal)) => answer(Err(refusal), out, needed, fault),
         None => answer_nothing(needed, fault),
     }

@@ -97,7 +97,8 @@ impl Asked {
 
     /// Gives the passes in which workers read the files of records, by the command line alone.
     pub fn passes(&self) -> u64 {
-        self.verb.passes(self.once || self.by_plan, self.options.workers)
+        let one_reading = self.once || self.by_plan;
+        self.verb.passes(one_reading, self.options.workers)
     }
 }
 

@@ -6,6 +6,13 @@ pub returns-clause-rows : goal.returns-clause-rows
 returns-clause-rows g c =
     let r = c.args.rows.now in
     let keys = c.in_ok-total.keys.items in
-    let (xs, are, reports, sum) = c.in_ok-total.ensures.keys in
-    (are, (xs, keys, reports, c.in_ok-printed_text.ensures ∙ ap (printed_rows c.in_ok-total.total r) c.deref.ensures.value
-    ∙ ap (λ (n : ℕ). printed_rows n r keys) sum))
+    let (xs, are, reports, sum) = c.in_ok-total.ensures.keys in (
+      are,
+      (
+        xs,
+        keys,
+        reports,
+        c.in_ok-printed_text.ensures ∙ ap (printed_rows c.in_ok-total.total r) c.deref.ensures.value
+            ∙ ap (λ (n : ℕ). printed_rows n r keys) sum,
+      ),
+    )
