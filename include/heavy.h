@@ -109,6 +109,8 @@ extern "C" {
 #define HEAVY_FILE_TOTAL_TOO_LARGE 13u
 #define HEAVY_FILE_ROW_SUM 14u
 #define HEAVY_FILE_TRAILING 15u
+#define HEAVY_FILE_DAMAGED 17u      /* of a sealed file, which no call reads today */
+#define HEAVY_FILE_BAD_DECIMALS 18u /* likewise */
 
 #define HEAVY_MERGE_DIFFERENT_K 1u
 #define HEAVY_MERGE_DIFFERENT_FAMILY 2u

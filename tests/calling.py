@@ -17,7 +17,7 @@ CALLS = programs.TOP / "docs" / "CALLS.md"
 LIBRARIES = {
     "hh_faults": "status_of_records", "hh_stream": "stream_of_one", "hh_summaries": "slack_of_both",
     "hh_tally": "tally_of_both",
-    "hh_counters": "bounds_of", "hh_countmin": "is_rare", "hh_saved": "summary_in", "hh_json": "client_and_bytes", "hh_records": "total_of_records",
+    "hh_counters": "bounds_of", "hh_countmin": "is_rare", "hh_saved": "summary_in", "hh_seals": "sealed_summary", "hh_json": "client_and_bytes", "hh_records": "total_of_records",
     "hh_rows": "rows_as_json", "hh_pieces": "ends_a_record", "hh_shared": "add_once", "hh_workers": "plan_of_three",
     "hh_pool": "heavy_keys", "hh_commands": "facts_of", "hh_library": "with_item",
     "hh_files": "table_of_files", "heavy": "saved_summary",

@@ -292,6 +292,8 @@ static void try_texts(void) {
         {{HEAVY_BAD_RECORD, HEAVY_RECORD_TOTAL_TOO_LARGE, 18446744073709551615u}, "record 18446744073709551615: total too large"},
         {{HEAVY_BAD_FILE, HEAVY_FILE_TRUNCATED, 2}, "file 2: truncated"},
         {{HEAVY_BAD_FILE, HEAVY_FILE_TRAILING, 1}, "file 1: trailing bytes"},
+        {{HEAVY_BAD_FILE, HEAVY_FILE_DAMAGED, 1}, "file 1: damaged: its checksum is another"},
+        {{HEAVY_BAD_FILE, HEAVY_FILE_BAD_DECIMALS, 2}, "file 2: bad decimals"},
         {{HEAVY_MIXED_KINDS, 0, 2}, "file 2: another kind"},
         {{HEAVY_CANNOT_MERGE, HEAVY_MERGE_DIFFERENT_K, 2}, "file 2: another k"},
         {{HEAVY_CANNOT_MERGE, HEAVY_MERGE_TOTAL_TOO_LARGE, 3}, "file 3: total too large"},

@@ -11,6 +11,7 @@ ghost use Rattle.hh_countmin.specs.Family.{drawn_family};
 ghost use Rattle.hh_countmin.specs.Table.{estimate_in, table_of};
 ghost use Rattle.hh_saved.specs.Reading.{saved_of};
 ghost use Rattle.hh_saved.specs.declared.saved.Saved.TheVariants.{Cells, Counters};
+ghost use Rattle.hh_seals.specs.Laws.{Seals};
 ghost use Rattle.csv.specs.Records.{fields_of};
 ghost use Rattle.hh_json.specs.Fields.{json_fields};
 ghost use Rattle.hh_pieces.specs.Sources.{sources_known};
@@ -39,7 +40,8 @@ use hh_pieces::{ReadAt, SourceRecords, ends_outside_quotes, read_stream};
 use hh_pool::{OpenGate, Options, Plan, RunError, analyse};
 use hh_records::{Column, Format};
 use hh_rows::{Form, Output, ReportOptions, RowOptions, Sink, printed_text};
-use hh_saved::{Saved, read};
+use hh_saved::{Saved, read, write};
+use hh_seals::seal;
 use hh_shared::{SharedSums, SumSeat};
 use hh_stream::{Cutting, Key, PushRefused, Stream};
 use hh_summaries::{Summary, SummaryFault};
@@ -110,6 +112,14 @@ pub fn summary_in(alloc: Global, file: &[u8]) -> Result<Option<Summary>, SavedFa
         Saved::Counters(summary) => Ok(Some(summary)),
         Saved::Cells(_) => Ok(None),
     }
+}
+
+/// The sealed file of a summary of weights with two decimals.
+pub fn sealed_summary(alloc: Global, summary: Summary) -> Result<Vec<u8>, SavedFault>
+    ensures { IfOk result (λ file. Seals file.items 2 (Counters summary)) }
+{
+    let spelling = write(alloc, &Saved::Counters(summary))?;
+    seal(alloc, 2, &spelling)
 }
 
 /// The record of a line of JSON: its key is the member `client`, and its weight the member `bytes`.

@@ -66,6 +66,8 @@ file_cause saved.TotalTooLarge = 13
 file_cause saved.RowSum = 14
 file_cause saved.Trailing = 15
 file_cause saved.Memory = 16
+file_cause saved.Damaged = 17
+file_cause saved.BadDecimals = 18
 
 abbrev pub merge_cause : MergeCause → ℕ
 merge_cause merge.DifferentK = 1

@@ -76,6 +76,8 @@ fn file_cause(fault: SavedFault) -> u32
         SavedFault::RowSum => 14,
         SavedFault::Trailing => 15,
         SavedFault::Memory => 16,
+        SavedFault::Damaged => 17,
+        SavedFault::BadDecimals => 18,
     }
 }
 

@@ -48,6 +48,8 @@ fn file_fault_of(number: u32) -> Option<SavedFault>
         13 => Some(SavedFault::TotalTooLarge),
         14 => Some(SavedFault::RowSum),
         15 => Some(SavedFault::Trailing),
+        17 => Some(SavedFault::Damaged),
+        18 => Some(SavedFault::BadDecimals),
         _ => None,
     }
 }

@@ -22,4 +22,6 @@ mod reports;
 #[cfg(test)]
 mod saved;
 #[cfg(test)]
+mod seals;
+#[cfg(test)]
 mod sinks;

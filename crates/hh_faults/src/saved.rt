@@ -12,7 +12,7 @@ pub enum SavedFault {
     /// Fewer bytes are left than the field has.
     #[error("truncated")]
     Truncated,
-    /// The file begins with neither `HHS1` nor `HHS2`.
+    /// The file begins with neither `HHS1` nor `HHS2`, nor, if it is sealed, with `HVY1`.
     #[error("bad magic")]
     BadMagic,
     /// The kind is neither 1 nor 2.
@@ -54,6 +54,12 @@ pub enum SavedFault {
     /// Bytes follow the last field.
     #[error("trailing bytes")]
     Trailing,
+    /// The digest of a sealed file is not that of the bytes before it.
+    #[error("damaged: its checksum is another")]
+    Damaged,
+    /// A sealed file has more than 9 decimals.
+    #[error("bad decimals")]
+    BadDecimals,
     /// The allocator had no memory.
     #[error("out of memory")]
     Memory,
