@@ -7,7 +7,7 @@ mod compared;
 mod counting;
 mod files;
 
-pub use commands::ask::{answer_of, ask_rows, check_key, read_for_keys, slack_of};
+pub use commands::ask::{answer_of, ask_rows, bounds_in, check_key, read_for_keys, slack_of};
 pub use commands::condense::{
     condense_bytes_from, condensed_counts, condensed_part, condensed_rows,
 };

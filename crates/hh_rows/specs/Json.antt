@@ -45,12 +45,17 @@ string_text field = quote_mark ∷ (flat_map (string_byte (is_utf8 field)) field
 abbrev pub member_text : List ℕ → List ℕ → List ℕ
 member_text name text = string_text name ++ (colon ∷ text)
 
--- whether a field begins with a digit
+-- the sign of a number below 0
+abbrev pub minus : ℕ
+minus = 45
+
+-- whether a field begins with a digit, or with a minus and a digit
 abbrev pub is_number : List ℕ → Bool
 is_number [] = false
-is_number (b ∷ rest) = is_ascii_digit b
+is_number (b ∷ []) = is_ascii_digit b
+is_number (b ∷ c ∷ rest) = if b == minus then is_ascii_digit c else is_ascii_digit b
 
--- a field after the first: a number as it is where it begins with a digit, and else a string
+-- a field after the first: as it is where it begins as a number, and else a string
 abbrev pub value_text : List ℕ → List ℕ
 value_text field = if is_number field then field else string_text field
 

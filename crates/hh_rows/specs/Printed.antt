@@ -34,7 +34,7 @@ abbrev pub report_columns : RowOptions → List (List ℕ)
 report_columns options = if options.share then codes "key" ∷ codes "weight" ∷ codes "share" ∷ [] else weight_columns
 
 -- the first n rows, or all of them
-abbrev pub topmost : Option ℕ → List Entry → List Entry
+abbrev pub topmost : {A : Type 0} → Option ℕ → List A → List A
 topmost None es = es
 topmost (Some n) es = take n es
 

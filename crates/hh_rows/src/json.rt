@@ -77,17 +77,18 @@ fn push_string(text: &mut Vec<u8>, field: &[u8]) -> Result<(), AllocError>
     Ok(())
 }
 
-/// Whether a `field` begins with a digit.
+/// Whether a `field` begins with a digit, or with a minus and a digit.
 fn is_number(field: &[u8]) -> bool
     ensures { result ≡ is_number field.now }
 {
     match field {
+        [b'-', second, ..] => second.is_ascii_digit(),
         [first, ..] => first.is_ascii_digit(),
         [] => false,
     }
 }
 
-/// Writes a `field` as a number where it begins with a digit, and else as a string.
+/// Writes a `field` as it is where it begins as a number, and else as a string.
 fn push_value(text: &mut Vec<u8>, field: &[u8]) -> Result<(), AllocError>
     ensures { OnOk result (text.new.items ≡ text.old.items ++ value_text field.now) }
 {

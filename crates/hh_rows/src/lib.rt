@@ -17,7 +17,7 @@ mod threshold;
 
 pub use hh_faults::WriteFault;
 pub use output::{Form, Output};
-pub use printed::{RowOptions, printed_text};
+pub use printed::{RowOptions, millionths, printed_text, topmost};
 pub use report_options::{ReportOptions, Tree};
 pub use row_writer::{Names, RowWriter};
 pub use rows::{condensed_text, report_text, write_report};

@@ -49,7 +49,7 @@ fn report_columns(options: &RowOptions) -> Names
 }
 
 /// Gives the first `top` of `rows`, or all of them if there are fewer or `top` is `None`.
-fn topmost<'a>(top: Option<u64>, rows: &'a [Heavy]) -> &'a [Heavy]
+pub fn topmost<T>(top: Option<u64>, rows: &[T]) -> &[T]
     ensures { result.now ≡ topmost top rows.now }
 {
     match top {
@@ -58,8 +58,8 @@ fn topmost<'a>(top: Option<u64>, rows: &'a [Heavy]) -> &'a [Heavy]
     }
 }
 
-/// A weight's share of a total in millionths, rounded down.
-fn millionths(total: u64, weight: u64) -> u128
+/// Gives the share that `weight` has of `total` in millionths, rounded down. Of no total it is 0.
+pub fn millionths(total: u64, weight: u64) -> u128
     ensures { result ≡ millionths total weight }
 {
     if total == 0 {

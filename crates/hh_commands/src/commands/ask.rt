@@ -1,13 +1,16 @@
 //! What a saved file tells of keys.
 
 ghost use Rattle.std.specs.Prelude.{◌≡◌, ◌<◌, Ok, Some, None, IfOk, IfErr, OnOk, MatchResult, map, vec_items};
+ghost use Rattle.hh_summaries.specs.Counters.{slack as slack_in};
 ghost use Rattle.hh_rows.specs.Outputs.{rows_in, with_row};
+ghost use Rattle.hh_commands.specs.Bounds.{bounds_of};
 ghost use Rattle.hh_commands.specs.Ask.{answer_fields, answer_of, answers_in, slack_of};
 ghost use Rattle.hh_commands.specs.Ask.{asked_value, bad_key, bound_columns, bounds_fields};
 ghost use Rattle.hh_commands.specs.Ask.{key_fault};
 ghost use Rattle.hh_commands.specs.Files.{Refuses, StopsAtHead, file_of};
 
 use crate::files::file_of;
+use hh_counters::Summary;
 use hh_faults::{KeyCause, ToolError};
 use hh_records::pointed;
 use hh_rows::{Names, Output, RowWriter};
@@ -61,6 +64,18 @@ pub fn slack_of(saved: &Saved) -> u64
     }
 }
 
+/// Gives the least and the most that `key` can weigh in the stream of `summary`: its counter, and
+/// that and `slack`, which is the summary's.
+pub fn bounds_in(summary: &Summary, slack: u64, key: &Key) -> (u64, u64)
+    requires { slack ≡ slack_in summary.now.counters summary.now.total summary.now.k }
+    ensures { result ≡ bounds_of summary.now key.now }
+{
+    let low = summary.get(key);
+    // The contract of `k` bounds the total and so the counters: the sum can't overflow.
+    let _k = summary.k();
+    (low, low + slack)
+}
+
 /// Gives the least and the most that `key` can weigh, by what `saved` tells. `slack` is what
 /// [`slack_of`] gives for it. By a table the least is always 0.
 pub fn answer_of(saved: &Saved, slack: u64, key: &Key) -> (u64, u64)
@@ -68,12 +83,7 @@ pub fn answer_of(saved: &Saved, slack: u64, key: &Key) -> (u64, u64)
     ensures { result ≡ answer_of saved.now key.now }
 {
     match saved {
-        Saved::Counters(summary) => {
-            let low = summary.get(key);
-            // The contract of `k` bounds the total and so the counters: the sum can't overflow.
-            let _k = summary.k();
-            (low, low + slack)
-        }
+        Saved::Counters(summary) => bounds_in(summary, slack, key),
         Saved::Cells(table) => (0, table.estimate(key)),
     }
 }

@@ -1,0 +1,4 @@
+pub mod ListFacts
+pub mod MergeFacts
+pub mod ChangeFacts
+pub mod ShareFacts
