@@ -721,6 +721,8 @@ class CommandLine(programs.Checks):
             "none": (b"", "is empty"), "text": (RECORDS, "looks like text: `heavy summarise` saves records of such"),
             "short": (b"HHS2\x01", "begins as a saved file, and is damaged or cut off"), "bytes": (b"\0\1", "looks like no saved file"),
             "later": (b"HHS3\x01", "is a saved file of a version that isn't known here"),
+            "sealed": (b"HVY1\x02", "begins as a sealed file, and is damaged or cut off"),
+            "later_seal": (b"HVY2\x02", "is a sealed file of a version that isn't known here"),
             "gz": (b"\x1f\x8b\x08\0", "looks like gzip: `gzip -dc` unpacks it"), "zip": (b"PK\3\4", "looks like a zip archive"),
             "zst": (b"\x28\xb5\x2f\xfd", "looks like zstd: `zstd -dc` unpacks it"), "bz2": (b"BZh9", "looks like bzip2: `bzip2 -dc` unpacks it"),
             "xz": (b"\xfd7zXZ\0", "looks like xz: `xz -dc` unpacks it"),

@@ -1,6 +1,7 @@
 #!/usr/bin/env python3
-"""Feeds damaged saved files of both versions to each command that reads them: each proper prefix of each worked file,
-each with a byte more, and each with one field spoiled. What has to come is written here by hand.
+"""Feeds damaged saved files of both versions, and sealed ones, to each command that reads them: each proper prefix of each worked
+file, each with a byte more, and each with one field spoiled; of sealed files each with a bit of any byte turned over, and damage
+behind a good seal. What has to come is written here by hand.
 
 usage: tests/damaged_files.py
 """
@@ -8,6 +9,7 @@ import tempfile
 from pathlib import Path
 
 import programs
+import reference
 
 RECORDS = b"a,5\nb,3\nc,2\na,1\n"
 
@@ -116,6 +118,21 @@ def damaged() -> list[tuple[bytes, str]]:
     return files
 
 
+def damaged_seals() -> list[tuple[bytes, str]]:
+    """The damaged sealed files, and those whose seal is good around what is no saved file, each with its fault."""
+    spelling, damage = bytes.fromhex(SUMMARY_2), "damaged: its checksum is another"
+    whole = reference.sealed(0, spelling)
+    files = [(whole[:end], "truncated" if end < 37 else damage) for end in range(len(whole))]
+    files += [(whole + bytes([more]), damage) for more in (0, 0x0A, 0xFF)]
+    for at, byte in enumerate(whole):
+        turned = whole[:at] + bytes([byte ^ 1 << at % 8]) + whole[at + 1:]
+        files.append((turned, "bad magic" if at < 4 else damage))
+    files += [(reference.sealed(decimals, spelling), "bad decimals") for decimals in (10, 255)]
+    files += [(reference.sealed(0, spelling[:end]), "truncated") for end in range(len(spelling))]
+    files += [(reference.sealed(0, spelling + b"\0"), "trailing bytes"), (reference.sealed(0, whole), "bad magic")]
+    return files + [(reference.sealed(0, with_field(SUMMARY_2, at, spoiled)), fault) for at, spoiled, fault in SPOILED_SUMMARY]
+
+
 class DamagedFiles(programs.Checks):
     """Damaged files, each refused with its fault."""
 
@@ -127,7 +144,7 @@ class DamagedFiles(programs.Checks):
         """Each damaged file, by each command that reads one."""
         good = f"{self.room}/good"
         Path(good).write_bytes(bytes.fromhex(SUMMARY_1))
-        for data, fault in damaged():
+        for data, fault in damaged() + damaged_seals():
             Path(self.path).write_bytes(data)
             commands = [["ask", self.path, "a"], ["merge", self.path], ["condense", self.path], ["confirm", self.path]]
             for words, place in [*((words, 1) for words in commands), (["merge", good, self.path], 2)]:
@@ -135,6 +152,32 @@ class DamagedFiles(programs.Checks):
                 expected = (3, b"", f"heavy: file {place}: {fault}\n".encode())
                 found = (ended.status, ended.out, ended.err)
                 self.check(f"{words[0]} of {data.hex()}", found == expected, (found, expected))
+
+    def test_damage_comes_first(self) -> None:
+        """All files are read before any is opened, and all opened before any is read field by field."""
+        files = {"good": bytes.fromhex(SUMMARY_2), "short": b"HHS2", "damaged": reference.sealed(0, b"HHS2")[:-1]}
+        for name, data in files.items():
+            Path(self.room, name).write_bytes(data)
+        for words, status, fault in [
+            (["good", "short", "damaged"], 3, b"file 3: damaged: its checksum is another"), (["damaged", "missing"], 1, b"file 2: could not be read"),
+        ]:
+            ended = programs.run([self.program, "merge", *words], cwd=self.room)
+            self.check(f"merge of {words}", (ended.status, ended.out, ended.err) == (status, b"", b"heavy: %s\n" % fault), ended)
+
+    def test_sealed(self) -> None:
+        """A sealed file answers as what it seals, and merges with files that aren't sealed."""
+        for text in WORKED:
+            spelling = bytes.fromhex(text)
+            files = {"plain": spelling, "sealed": reference.sealed(0, spelling)}
+            for name, data in files.items():
+                Path(self.room, name).write_bytes(data)
+            for words in (["merge"], ["ask", "-"], ["list"], ["condense"], ["confirm"], ["merge", "plain"]):
+                said = []
+                for name in files:
+                    given = [words[0], *words[1:], name] if words[1:] != ["-"] else [words[0], name, "a"]
+                    ended = programs.run([self.program, *given], RECORDS, cwd=self.room)
+                    said.append((ended.status, ended.out, ended.err))
+                self.check(f"{words} of {text}, sealed", said[0] == said[1], said)
 
     def test_undamaged(self) -> None:
         """Whole files of both versions: each merges to the spelling of version 2 and answers alike."""

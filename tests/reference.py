@@ -1,5 +1,6 @@
 """What the program has to answer, written a second time: a reader of records and of saved files, Misra-Gries, and
 the commands. It follows docs/FORMATS.md and shares nothing with the program."""
+import hashlib
 import re
 from dataclasses import dataclass
 
@@ -284,6 +285,12 @@ def read_table(fields: Fields) -> Table:
         if sum(cells[-1]) != total:
             raise Refused("row does not sum to total")
     return Table(width, z, rows, total, cells)
+
+
+def sealed(decimals: int, spelling: bytes) -> bytes:
+    """The sealed file of a spelling with these decimals."""
+    covered = b"HVY1" + bytes([decimals]) + spelling
+    return covered + hashlib.sha256(covered).digest()
 
 
 def read(data: bytes) -> Summary | Table:

@@ -1,6 +1,6 @@
 -- What answers a request, by the bytes that are given of the files that it names.
 use Rattle.std.specs.Io.KnownBytes.{Appends}
-use Rattle.std.specs.Prelude.{ℕ, ◌≡◌, ◌⊎◌, ◌||◌, ⊤, Bool, true, false, not, List, Option, Some, Ok, map}
+use Rattle.std.specs.Prelude.{ℕ, ◌≡◌, ◌⊎◌, ◌||◌, ⊤, Bool, true, false, not, List, Option, Some, None, Ok, map}
 use Rattle.hh_summaries.specs.Counters.{sketch_of}
 use Rattle.hh_countmin.specs.Family.{drawn_family}
 use Rattle.hh_countmin.specs.Table.{table_of}
@@ -8,6 +8,7 @@ use Rattle.hh_saved.specs.Spelling.{Spells}
 use Rattle.hh_saved.specs.declared.format.Version.TheVariants as version
 use Rattle.hh_saved.specs.declared.saved.Saved.{Saved}
 use Rattle.hh_saved.specs.declared.saved.Saved.TheVariants.{Cells, Counters}
+use Rattle.hh_seals.specs.Opening.{unsealed}
 use Rattle.hh_records.specs.Streams.{Known}
 use Rattle.hh_records.specs.declared.layout.Layout.{Layout}
 use Rattle.hh_rows.specs.declared.output.Output.{Output}
@@ -54,10 +55,20 @@ pub record SavesByWorkers (k workers : ℕ) (known : Known) (bytes : List ℕ) :
 abbrev pub SavesTable : ℕ → ℕ → ℕ → Known → List ℕ → Type 0
 SavesTable width depth seed known bytes = SavesStream (λ xs. Cells (table_of (drawn_family seed depth) width xs)) known bytes
 
+-- a file with these bytes holds the saved one: the bytes themselves, or the spelling that they seal
+abbrev pub opens_file : List ℕ → Option (List ℕ) → Type 0
+opens_file file (Some saved) = unsealed file ≡ Ok saved
+opens_file file None = ⊥
+
+-- the saved file with this name, which is opened
+abbrev pub gives_saved : (List ℕ → Option (List ℕ) → Type 0) → List ℕ → Option (List ℕ) → Type 0
+gives_saved gives name (Some saved) = (file : List ℕ) × gives name (Some file) × opens_file file (Some saved)
+gives_saved gives name None = gives name None
+
 -- the bytes save the merge of the files with these names, in their order
 pub record MakesMerge (gives : List ℕ → Option (List ℕ) → Type 0) (names : List (List ℕ)) (bytes : List ℕ) : Type 0 where
   pub files : List (List ℕ)
-  pub read : AreRead gives names files
+  pub read : AreRead (gives_saved gives) names files
   pub saved : Saved
   pub merged : merged_files files ≡ Ok saved
   pub spelled : Spells version.Two bytes saved
@@ -95,7 +106,7 @@ PrintsReport asked known bytes =
 
 -- this holds of the first saved file
 abbrev pub OfSaved : (List ℕ → Option (List ℕ) → Type 0) → Asked → (List ℕ → Type 0) → Type 0
-OfSaved gives asked Holds = (file : List ℕ) × gives (first_file asked) (Some file) × Holds file
+OfSaved gives asked Holds = (file : List ℕ) × gives_saved gives (first_file asked) (Some file) × Holds file
 
 -- a method has this name
 abbrev pub NamesMethod : List ℕ → Type 0
@@ -105,8 +116,8 @@ NamesMethod word = (method : Method) × (word ≡ word_of method)
 abbrev pub IsFileOf : (List ℕ → Option (List ℕ) → Type 0) → Pass → Asked → List ℕ → Type 0
 IsFileOf gives pass.Summarise asked file = NamesMethod asked.method.items
 IsFileOf gives pass.Table asked file = ⊤
-IsFileOf gives pass.Condense asked file = gives (first_file asked) (Some file)
-IsFileOf gives pass.Confirm asked file = gives (first_file asked) (Some file)
+IsFileOf gives pass.Condense asked file = gives_saved gives (first_file asked) (Some file)
+IsFileOf gives pass.Confirm asked file = gives_saved gives (first_file asked) (Some file)
 
 -- a pass makes this of the records that are asked for
 abbrev pub MakesPass : (List ℕ → Option (List ℕ) → Type 0) → (Bool → List ℕ → Option (List ℕ) → Type 0) → Pass → Asked

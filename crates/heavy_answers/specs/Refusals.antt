@@ -1,6 +1,6 @@
 -- What a refusal to answer a request says, by the bytes that are given of the files that it names.
 use Rattle.std.specs.Io.KnownBytes.{Keeps}
-use Rattle.std.specs.Prelude.{ℕ, ◌≡◌, ◌⊎◌, ◌+◌, ◌-◌, ◌^◌, ◌<◌, ◌*◌, min, Bool, false, true, List, [], ◌∷◌, Option, Some, None, map, length, slice_index_or}
+use Rattle.std.specs.Prelude.{ℕ, ◌≡◌, ◌⊎◌, ◌+◌, ◌-◌, ◌^◌, ◌<◌, min, Bool, false, true, List, [], ◌∷◌, Option, Some, None, Err, map, length, slice_index_or}
 use Rattle.hh_stream.specs.Ranges.{in_range}
 use Rattle.hh_workers.specs.Workers.{max_workers}
 use Rattle.hh_records.specs.LayoutWords.{LayoutRefused}
@@ -11,6 +11,8 @@ use Rattle.hh_rows.specs.Sinks.{TakesFirst}
 use Rattle.hh_rows.specs.declared.threshold.Share.{Share}
 use Rattle.hh_faults.specs.declared.error.ToolError.{ToolError}
 use Rattle.hh_faults.specs.declared.error.ToolError.TheVariants as tool
+use Rattle.hh_faults.specs.declared.saved.SavedFault.{SavedFault}
+use Rattle.hh_seals.specs.Opening.{unsealed}
 use Rattle.hh_commands.specs.Ask.{answers_in}
 use Rattle.hh_commands.specs.Condense.{CondensePartRefused}
 use Rattle.hh_commands.specs.Confirm.{ConfirmRowsRefused}
@@ -33,7 +35,7 @@ use Rattle.heavy_arguments.specs.declared.verbs.Verb.{Verb}
 use Rattle.heavy_arguments.specs.declared.verbs.Verb.TheVariants as verb
 use Rattle.heavy_requests.specs.Request.{bytes_of, first_file}
 use Rattle.heavy_requests.specs.declared.request.Asked.{Asked}
-use Rattle.heavy_answers.specs.Answers.{Answers, IsFileOf, OfRecords, refuses_contradictions}
+use Rattle.heavy_answers.specs.Answers.{Answers, IsFileOf, OfRecords, gives_saved, refuses_contradictions}
 use Rattle.heavy_answers.specs.Inputs.{AreRecords, standard_name}
 
 -- the number of the input in this place after some saved files
@@ -97,9 +99,15 @@ FailsInOnePass pass.Confirm asked file refuses known e =
 abbrev pub NamesNoMethod : List ℕ → Type 0
 NamesNoMethod word = (method : Method) → word ≡ word_of method → ⊥
 
--- there is no memory for the first saved file, or it can't be read
+-- what a refusal to open saved file n says: there is no memory, or its seal is wrong
+abbrev pub SealFails : ℕ → List ℕ → ToolError → Type 0
+SealFails n file e = (e ≡ tool.Memory) ⊎ ((f : SavedFault) × (unsealed file ≡ Err f) × (e ≡ tool.BadFile n f))
+
+-- there is no memory for the first saved file, or it can't be read, or not be opened
 abbrev pub IsUnread : (List ℕ → Option (List ℕ) → Type 0) → Asked → ToolError → Type 0
-IsUnread gives asked e = (e ≡ tool.Memory) ⊎ ((e ≡ tool.FileFault 1) × gives (first_file asked) None)
+IsUnread gives asked e =
+    (e ≡ tool.Memory) ⊎ ((e ≡ tool.FileFault 1) × gives (first_file asked) None)
+    ⊎ ((file : List ℕ) × gives (first_file asked) (Some file) × SealFails 1 file e)
 
 -- a pass is refused before its records are opened: a summary by its method, and others by their saved file
 abbrev pub IsFileRefused : (List ℕ → Option (List ℕ) → Type 0) → Pass → Asked → ToolError → Type 0
@@ -134,16 +142,22 @@ pub record IsUnreadAt (gives : List ℕ → Option (List ℕ) → Type 0) (names
   pub unread : gives (slice_index_or names place []) None
   pub number : e ≡ tool.FileFault (place + 1)
 
--- there is no memory for the files with these names, one can't be read, or they are refused
+-- there is no memory for the saved files with these bytes, or the seal of one is wrong
+abbrev pub SealsFail : List (List ℕ) → ToolError → Type 0
+SealsFail files e =
+    (e ≡ tool.Memory) ⊎ ((place : ℕ) × (place < length files) × SealFails (place + 1) (slice_index_or files place []) e)
+
+-- there is no memory for the files with these names, one can't be read, one can't be opened, or they are refused
 abbrev pub FilesFail : (List ℕ → Option (List ℕ) → Type 0) → List (List ℕ) → (List (List ℕ) → ToolError → Type 0) → ToolError → Type 0
 FilesFail gives names Fails e =
     (e ≡ tool.Memory) ⊎ ((place : ℕ) × IsUnreadAt gives names e place)
-    ⊎ ((files : List (List ℕ)) × AreRead gives names files × Fails files e)
+    ⊎ ((files : List (List ℕ)) × AreRead gives names files × SealsFail files e)
+    ⊎ ((files : List (List ℕ)) × AreRead (gives_saved gives) names files × Fails files e)
 
 -- the first saved file can't be read, or is refused
 abbrev pub SavedFails : (List ℕ → Option (List ℕ) → Type 0) → Asked → (List ℕ → ToolError → Type 0) → ToolError → Type 0
 SavedFails gives asked Fails e =
-    IsUnread gives asked e ⊎ ((file : List ℕ) × gives (first_file asked) (Some file) × Fails file e)
+    IsUnread gives asked e ⊎ ((file : List ℕ) × gives_saved gives (first_file asked) (Some file) × Fails file e)
 
 -- the report can't begin: the inputs can't be opened, an option is refused, or behind the options an input can't be kept
 abbrev pub BeginRefused : (List ℕ → ℕ → ToolError → Type 0) → Asked → ToolError → Type 0

@@ -11,7 +11,8 @@ ghost use Rattle.hh_files.specs.Report.{AreOptions, PrintsRows};
 ghost use Rattle.hh_files.specs.TopFiles.{PrintsTop};
 
 use crate::host::Host;
-use crate::opening::{into_kept, open, open_records, saved_file};
+use crate::opening::{into_kept, open, open_records};
+use crate::saved_files::{opened_files, saved_file};
 use crate::single_pass::in_one_pass;
 use heavy_arguments::Verb;
 use heavy_host::read_files;
@@ -26,8 +27,9 @@ use std::sync::Wait;
 use std::thread::Threads;
 
 /// Reads the saved files `names`, merges them in this order and gives the bytes of the merged file.
-/// All files are read before any is tested, so a file that can't be read is refused before one
-/// whose bytes are wrong. `clap` requires a name.
+/// All files are read before any is opened, and all are opened before any is read field by field. So
+/// a file that can't be read is refused before one whose seal is wrong, and that before one whose
+/// fields are. `clap` requires a name.
 fn merged<H: Host>(host: &H, names: &[Vec<u8>]) -> Result<Vec<u8>, ToolError>
     ensures made { IfOk result (λ bytes. MakesMerge (H.gives host.now)
         (map (λ w. w.items) names.now) bytes.items) }
@@ -38,7 +40,8 @@ fn merged<H: Host>(host: &H, names: &[Vec<u8>]) -> Result<Vec<u8>, ToolError>
     if files.is_empty() {
         return Err(ToolError::Memory);
     }
-    merge_bytes(host.alloc(), &files)
+    let opened = opened_files(host.alloc(), &files)?;
+    merge_bytes(host.alloc(), &opened)
 }
 
 /// Makes the rows of the greatest keys of the records that are `asked` for, by counters that grow

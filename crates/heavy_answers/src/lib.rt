@@ -5,6 +5,7 @@
 mod answering;
 mod host;
 mod opening;
+mod saved_files;
 mod single_pass;
 
 pub use answering::answer;

@@ -1,6 +1,6 @@
 //! Opens the inputs of records that a request names.
 
-ghost use Rattle.std.specs.Prelude.{◌≡◌, ◌<◌, ◌∷◌, ◌++◌, ◌||◌, ◌⊎◌, ℕ, [], false, true, length, map, Err, Some, IfErr, IfOk, IsErr, OnOk};
+ghost use Rattle.std.specs.Prelude.{◌≡◌, ◌<◌, ◌∷◌, ◌++◌, ◌||◌, ◌⊎◌, ℕ, [], false, true, length, map, Err, IfErr, IfOk, IsErr, OnOk};
 ghost use Rattle.hh_records.specs.Layouts.{every};
 ghost use Rattle.hh_pieces.specs.Texts.{records_known};
 ghost use Rattle.hh_records.specs.LayoutWords.{LayoutRefused, SaysLayout};
@@ -9,13 +9,12 @@ ghost use Rattle.hh_workers.specs.Workers.{max_workers};
 ghost use Rattle.heavy_host.specs.Opening.{names_standard};
 ghost use Rattle.heavy_answers.specs.Inputs.{Agree, AreInputs, AreRecords, IsReadOnce};
 ghost use Rattle.heavy_answers.specs.Inputs.{input_names};
-ghost use Rattle.heavy_requests.specs.Request.{first_file};
-ghost use Rattle.heavy_answers.specs.Refusals.{IsUnkept, IsUnopened, IsUnopenedAt, IsUnread};
+ghost use Rattle.heavy_answers.specs.Refusals.{IsUnkept, IsUnopened, IsUnopenedAt};
 ghost use Rattle.heavy_answers.specs.Refusals.{OpenRefused};
 ghost use Rattle.heavy_answers.specs.Refusals.{SourcesRefused};
 
 use crate::host::Host;
-use heavy_host::{is_standard, read_file};
+use heavy_host::is_standard;
 use heavy_requests::{Asked, RecordWords};
 use hh_faults::ToolError;
 use hh_pieces::{Records, SourceRecords};
@@ -24,7 +23,7 @@ use hh_stream::in_range;
 use hh_workers::MAX_WORKERS;
 
 /// Pushes `one` after `others`.
-fn push_to<T: Drop>(others: &mut Vec<T>, one: T) -> Result<(), ToolError>
+pub(crate) fn push_to<T: Drop>(others: &mut Vec<T>, one: T) -> Result<(), ToolError>
     ensures pushed { OnOk result (others.new.items ≡ others.old.items ++ one ∷ []) }
     ensures refused { IsErr result → result ≡ Err ToolError.Memory }
 {
@@ -32,15 +31,6 @@ fn push_to<T: Drop>(others: &mut Vec<T>, one: T) -> Result<(), ToolError>
         Ok(()) => Ok(()),
         Err(_) => Err(ToolError::Memory),
     }
-}
-
-/// Reads the first saved file that `asked` names.
-pub(crate) fn saved_file<H: Host>(host: &H, asked: &Asked) -> Result<Vec<u8>, ToolError>
-    ensures read { IfOk result (λ file.
-        H.gives host.now (first_file asked.now) (Some file.items)) }
-    ensures refused { IfErr result (IsUnread (H.gives host.now) asked.now) }
-{
-    read_file(host, 1, asked.first_file())
 }
 
 /// Whether standard input is taken once `name` is open: it `is_taken` before, or `name` is `-`.

@@ -9,7 +9,8 @@ ghost use Rattle.heavy_answers.specs.Answers.{IsFileOf, MakesInOnePass, MakesPas
 ghost use Rattle.heavy_answers.specs.Refusals.{FailsInOnePass, IsFileRefused, PassFails};
 
 use crate::host::Host;
-use crate::opening::{OnePass, open_once, saved_file};
+use crate::opening::{OnePass, open_once};
+use crate::saved_files::saved_file;
 use heavy_arguments::Pass;
 use heavy_requests::Asked;
 use hh_commands::{

@@ -31,10 +31,18 @@ const OTHERS: [Begins; 7] = [
 ];
 
 /// Saved files: of the versions that are known here, and of any.
-const SAVED: [Begins; 3] = [
+const SAVED: [Begins; 5] = [
     (b"HHS1", "begins as a saved file, and is damaged or cut off"),
     (b"HHS2", "begins as a saved file, and is damaged or cut off"),
+    (
+        b"HVY1",
+        "begins as a sealed file, and is damaged or cut off",
+    ),
     (b"HHS", "is a saved file of a version that isn't known here"),
+    (
+        b"HVY",
+        "is a sealed file of a version that isn't known here",
+    ),
 ];
 
 /// Gives what is said of the first of `formats` that `bytes` begin as.

@@ -38,9 +38,18 @@ fn kind_in(bytes: &[u8]) -> Option<SavedKind> {
     }
 }
 
+/// Gives the first bytes of the spelling that a sealed file with these first bytes has, or all of
+/// them where it isn't sealed.
+fn unsealed(bytes: &[u8]) -> &[u8] {
+    match bytes.strip_prefix(b"HVY1".as_slice()) {
+        Some(rest) if !rest.is_empty() => &rest[1..],
+        _ => bytes,
+    }
+}
+
 /// Gives what the file `name` is, where it is one of the disk.
 fn kind_of(rt: &HostRuntime, name: &[u8]) -> Option<SavedKind> {
-    kind_in(&begin_of(rt, name)?)
+    kind_in(unsealed(&begin_of(rt, name)?))
 }
 
 /// Prints what the file `number` of `names` is, and what the first one is, where both can be looked

@@ -17,7 +17,8 @@ fn saved_bytes(rt: &HostRuntime, path: &str) -> io::Result<Vec<u8>> {
     let mut bytes = Vec::new(rt.alloc());
     let mut file = File::open(rt, path)?;
     (&mut file).take(MAGIC_LEN).read_to_end(&mut bytes)?;
-    if bytes.starts_with(b"HHS1") || bytes.starts_with(b"HHS2") {
+    let is_sealed = bytes.starts_with(b"HVY1");
+    if is_sealed || bytes.starts_with(b"HHS1") || bytes.starts_with(b"HHS2") {
         file.read_to_end(&mut bytes)?;
     }
     Ok(bytes)

@@ -4,6 +4,7 @@ use Rattle.std.specs.List.{starts_with}
 use Rattle.std.specs.Str.{bytes_eq}
 use Rattle.hh_faults.specs.declared.saved.SavedFault.{SavedFault}
 use Rattle.hh_faults.specs.declared.saved.SavedFault.TheVariants as faults
+use Rattle.hh_saved.specs.Reading.{◌>>=◌}
 use Rattle.sha2.specs.Sha256.{sha256}
 use Rattle.hh_seals.specs.Sealing.{max_decimals, sealed_len}
 
@@ -34,3 +35,7 @@ opened_of bytes =
     else (if starts_with nat_eq bytes (codes "HVY1") then
     (if nat_lt (length bytes) sealed_len then Err faults.Truncated else contents_in bytes)
     else Err faults.BadMagic)
+
+-- the spelling that the bytes of a file seal, or all bytes of one that begins as no sealed file; or the fault of its seal
+abbrev pub unsealed : List ℕ → Result (List ℕ) SavedFault
+unsealed bytes = if starts_with nat_eq bytes (codes "HVY1") then (opened_of bytes >>= λ c. Ok c.1) else Ok bytes

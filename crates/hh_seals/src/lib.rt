@@ -10,5 +10,5 @@ mod opening;
 mod sealing;
 
 pub use hh_faults::SavedFault;
-pub use opening::{Contents, open};
+pub use opening::{Contents, open, unsealed};
 pub use sealing::{MAX_DECIMALS, seal};

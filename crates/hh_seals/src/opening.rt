@@ -2,7 +2,7 @@
 
 ghost use Rattle.std.specs.Prelude.{ℕ, IfOk, List, Ok};
 ghost use Rattle.hh_saved.specs.Reading.{Reads};
-ghost use Rattle.hh_seals.specs.Opening.{opened_of};
+ghost use Rattle.hh_seals.specs.Opening.{opened_of, unsealed};
 ghost use Rattle.hh_seals.specs.Sealing.{IsSealed};
 
 use crate::sealing::{MAGIC, MAX_DECIMALS};
@@ -63,4 +63,15 @@ fn contents_of(bytes: &[u8]) -> Result<Contents<'_>, SavedFault>
         decimals,
         spelling: &content[MAGIC.len() + 1..],
     })
+}
+
+/// The spelling that the bytes of a saved file seal, or all `bytes` where they don't begin as a
+/// sealed file. The error is the fault of the seal. No memory is taken.
+pub fn unsealed(bytes: &[u8]) -> Result<&[u8], SavedFault>
+    ensures { Reads (λ spelling. spelling.now) result (unsealed bytes.now) }
+{
+    if !bytes.starts_with(&MAGIC) {
+        return Ok(bytes);
+    }
+    Ok(contents_of(bytes)?.spelling)
 }

@@ -36,3 +36,9 @@ returns-in_ok-file-in-Ask-clause-refused g c =
     rw c.in-Ask.is (if_err_more c.ask_rows.result
     (λ fault fails. inr (c.in_ok-file-in-Ask.file.items, c.in_ok-file-in-Ask.ensures.read, fails))
     (rw (c.deref-in-Ask.ensures.value, c.deref-in-Ask-2.ensures.value) at c.ask_rows.ensures.refused))
+
+pub returns-in-Merge-clause-refused : goal.returns-in-Merge-clause-refused
+returns-in-Merge-clause-refused g c =
+    subst (λ verb. IfErr c.merged.result (Fails (g.H.FileSource.gives c.args.host.now) (g.H.Host.opens c.args.host.now)
+    (g.H.Host.unopened c.args.host.now) verb c.args.asked.now c.args.compared.now.refuses)) (sym c.in-Merge.is)
+    (rw c.deref.ensures.value at c.merged.ensures.refused)
