@@ -7,5 +7,5 @@ mod host;
 mod opening;
 mod single_pass;
 
-pub use answering::answer;
+pub use answering::{answer, answer_in_file};
 pub use host::Host;

@@ -7,7 +7,7 @@ use crate::comparisons::{tell_next, tell_outside, tell_totals, tell_uncertain};
 use crate::escaped::{Name, print_about};
 use crate::file_names::FileNames;
 use crate::first_bytes::tell_looks;
-use crate::reasons::{tell_standard, tell_unkept, tell_unread};
+use crate::reasons::{tell_standard, tell_unkept, tell_unread, tell_unwritten};
 use crate::record_place::Texts;
 use crate::saved_kinds::{tell_kinds, tell_unmerged};
 use heavy_host::{Unread, is_standard};
@@ -86,6 +86,13 @@ pub(crate) fn explain_comparison(
             }
         }
         _ => {}
+    }
+}
+
+/// Prints why the file that was `asked` for couldn't be written, where that is the `fault`.
+pub(crate) fn explain_out(rt: &HostRuntime, fault: &ToolError, asked: &Asked, unread: &Unread) {
+    if let (ToolError::WriteFault { .. }, Some(name)) = (fault, &asked.out) {
+        tell_unwritten(rt, Name(name.as_slice()), unread);
     }
 }
 
