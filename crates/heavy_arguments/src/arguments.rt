@@ -186,21 +186,21 @@ pub const SAVED_FILE: Named = Argument {
     name: "FILE",
     letter: None,
     kind: Kind::Word,
-    help: "A saved file",
+    help: "A saved file; - is standard input, once",
 };
 
 pub const SAVED_SUMMARY: Named = Argument {
     name: "FILE",
     letter: None,
     kind: Kind::Word,
-    help: "A saved summary",
+    help: "A saved summary; - is standard input, once",
 };
 
 pub const SAVED_FILES: Named = Argument {
     name: "FILE",
     letter: None,
     kind: Kind::Words,
-    help: "A saved file",
+    help: "A saved file; - is standard input, once",
 };
 
 pub const KEYS: Named = Argument {

@@ -124,7 +124,7 @@ pub const MERGE: Help = Help {
     about: "Merge saved files, and write the result to standard output",
     whole: "Merge saved files, and write the result to standard output: summaries of one k, or
 tables of one width, depth and seed. The result stands for the records of all. All files
-are held in memory at once. None is standard input: - is a file's name here.
+are held in memory at once. One of them may be -, standard input.
 A word that begins with - is given after --",
     end: "Exit status: 0 the result is whole; 1 a file could not be read or output not be
 written; 2 wrong usage; 3 a file is damaged or of another kind; 4 out of memory.

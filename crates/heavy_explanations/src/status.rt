@@ -17,6 +17,7 @@ use crate::notes::{
 };
 use crate::record_place::Texts;
 use crate::samples::{format_hints, with_files};
+use crate::saved_kinds::SavedFiles;
 use crate::thresholds::tell_threshold;
 use heavy_host::{OtherKind, numbered, print_fault, status_after};
 use heavy_inputs::Inputs;
@@ -39,17 +40,27 @@ fn texts_of<'a>(inputs: Inputs<'a>, asked: &'a Asked) -> Texts<'a> {
     }
 }
 
+/// Gathers what can be looked at again of the saved files that `asked` names.
+fn saved_files<'a>(inputs: Inputs<'a>, asked: &'a Asked) -> SavedFiles<'a> {
+    SavedFiles {
+        rt: inputs.rt,
+        names: FileNames::of(asked),
+        begin: &inputs.notes.begin,
+    }
+}
+
 /// Prints more about the `fault` of what was `asked` for, by what was noted of the inputs and
 /// `compared`.
 fn explain(inputs: Inputs<'_>, fault: &ToolError, asked: &Asked, compared: &Comparison) {
     let (rt, notes, records) = (inputs.rt, inputs.notes, &asked.records);
-    let names = FileNames::of(asked);
+    let files = saved_files(inputs, asked);
     if let ToolError::BadThreshold = fault {
         tell_threshold(rt, asked);
     }
-    explain_file(rt, names, fault, &notes.unread);
+    explain_file(files, fault, &notes.unread);
     explain_out(rt, fault, asked, &notes.unread);
-    explain_comparison(rt, names.name(1), fault, compared, records.layout.decimals);
+    let (first, decimals) = (files.names.input(1), records.layout.decimals);
+    explain_comparison(rt, first, fault, compared, decimals);
     explain_open(rt, fault, asked);
     explain_records(texts_of(inputs, asked), fault);
 }
@@ -130,13 +141,13 @@ fn print_notes(inputs: Inputs<'_>, asked: &Asked, compared: &Comparison, rows: u
             print_format_hint(rt, hints);
         }
         print_open(rt, endings.open, names);
-        print_few_keys(rt, asked, rows, hints.has_records);
+        print_few_keys(saved_files(inputs, asked), asked, rows, hints.has_records);
     }
     print_long(rt, endings.long, names);
     print_bad(rt, inputs.notes.bad.count(), &layout.bad_as);
     if let Some(outside) = &compared.outside {
         let words = "heavy: note: these aren't the records that were summarised: ";
-        tell_outside(rt, words, names.name(1), outside, layout.decimals);
+        tell_outside(rt, words, names.input(1), outside, layout.decimals);
     }
 }
 
