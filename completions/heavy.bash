@@ -14,16 +14,16 @@ _heavy() {
     -k | --k | -t | --threshold | -n | --top | -d | --delimiter | --key | --weight | --bad-as | --decimals | --until | --prefix | --workers | --memory | --pieces | --width | --depth | --seed) return ;;
   esac
   case ${COMP_WORDS[1]} in
-    report) options='-k --k -t --threshold -n --top --share --output --names --once --explain --progress -h --help -d --delimiter -H --header --key --weight --allow-zero --bad-as --decimals --until --prefix --no-quotes --squeeze --lines --json --workers --memory --pieces --tree --width --depth --seed' ;;
-    top) options='--share --output --names --workers --memory --explain --progress -h --help -d --delimiter -H --header --key --weight --allow-zero --bad-as --decimals --until --prefix --no-quotes --squeeze --lines --json' ;;
-    summarise) options='-k --k --method --workers --explain --progress -h --help -d --delimiter -H --header --key --weight --allow-zero --bad-as --decimals --until --prefix --no-quotes --squeeze --lines --json' ;;
-    table) options='--width --depth --seed --workers --explain --progress -h --help -d --delimiter -H --header --key --weight --allow-zero --bad-as --decimals --until --prefix --no-quotes --squeeze --lines --json' ;;
-    merge) options='--explain -h --help' ;;
-    ask) options='--decimals --output --names --explain -h --help' ;;
-    list) options='--decimals --output --names --explain -h --help' ;;
-    describe) options='--output --names --explain -h --help' ;;
-    condense) options='--output --names --workers --explain --progress -h --help -d --delimiter -H --header --key --weight --allow-zero --bad-as --decimals --until --prefix --no-quotes --squeeze --lines --json' ;;
-    confirm) options='-t --threshold -n --top --share --output --names --workers --explain --progress -h --help -d --delimiter -H --header --key --weight --allow-zero --bad-as --decimals --until --prefix --no-quotes --squeeze --lines --json' ;;
+    report) options='-k --k -t --threshold -n --top --share --output --names -o --out --once --explain --progress -h --help -d --delimiter -H --header --key --weight --allow-zero --bad-as --decimals --until --prefix --no-quotes --squeeze --lines --json --workers --memory --pieces --tree --width --depth --seed' ;;
+    top) options='--share --output --names -o --out --workers --memory --explain --progress -h --help -d --delimiter -H --header --key --weight --allow-zero --bad-as --decimals --until --prefix --no-quotes --squeeze --lines --json' ;;
+    summarise) options='-k --k --method --workers -o --out --explain --progress -h --help -d --delimiter -H --header --key --weight --allow-zero --bad-as --decimals --until --prefix --no-quotes --squeeze --lines --json' ;;
+    table) options='--width --depth --seed --workers -o --out --explain --progress -h --help -d --delimiter -H --header --key --weight --allow-zero --bad-as --decimals --until --prefix --no-quotes --squeeze --lines --json' ;;
+    merge) options='-o --out --explain -h --help' ;;
+    ask) options='--decimals --output --names -o --out --explain -h --help' ;;
+    list) options='--decimals --output --names -o --out --explain -h --help' ;;
+    describe) options='--output --names -o --out --explain -h --help' ;;
+    condense) options='--output --names -o --out --workers --explain --progress -h --help -d --delimiter -H --header --key --weight --allow-zero --bad-as --decimals --until --prefix --no-quotes --squeeze --lines --json' ;;
+    confirm) options='-t --threshold -n --top --share --output --names -o --out --workers --explain --progress -h --help -d --delimiter -H --header --key --weight --allow-zero --bad-as --decimals --until --prefix --no-quotes --squeeze --lines --json' ;;
     help) mapfile -t COMPREPLY < <(compgen -W "$commands" -- "$cur"); return ;;
   esac
   case $cur in

@@ -18,6 +18,7 @@ complete -c heavy -n '__fish_seen_subcommand_from report confirm' -s n -l top -x
 complete -c heavy -n '__fish_seen_subcommand_from report top confirm' -l share -d 'Print in a third column the weight\'s share of the total in percent, rounded down'
 complete -c heavy -n '__fish_seen_subcommand_from report top ask list describe condense confirm' -l output -x -a 'csv tsv json' -d 'Print rows as csv, tsv or json, an object a line'
 complete -c heavy -n '__fish_seen_subcommand_from report top ask list describe condense confirm' -l names -d 'Print a first row with the columns\' names'
+complete -c heavy -n '__fish_seen_subcommand_from report top summarise table merge ask list describe condense confirm' -s o -l out -r -F -d 'Write to FILE: a new file takes its place once it is whole'
 complete -c heavy -n '__fish_seen_subcommand_from report' -l once -d 'Read the input once and keep nothing of it; rows that are uncertain are refused'
 complete -c heavy -n '__fish_seen_subcommand_from report top summarise table merge ask list describe condense confirm' -l explain -d 'Say more about a fault, in a second line, as is done on a terminal'
 complete -c heavy -n '__fish_seen_subcommand_from report top summarise table condense confirm' -l progress -d 'Tell on standard error how far the input is read, about once a second'

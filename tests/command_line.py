@@ -708,15 +708,20 @@ class CommandLine(programs.Checks):
         self.tells(["confirm", "day"], "day has 11, and the records have 5", 3, b"a,5\n")
         self.tells(["confirm", "table"], "table is a Count-Min table", 3)
         self.tells(["list", "table"], "table is a Count-Min table", 3)
-        self.tells(["merge", "day", "k3"], "k3 is a summary with k 3, and day is a summary with k 2", 3)
+        self.tells(["merge", "day", "k3"], "k3: k is 3, and 2 in day", 3)
         self.tells(["merge", "day", "day", "table"], "table is a table of width 8 and depth 4, and day is a summary with k 2", 3)
         self.save("wide", ["table", "--width", "9"])
         self.save("seven", ["table", "--width", "8", "--seed", "7"])
         self.save("most", ["summarise", "--k", "2"], b"a,9223372036854775807\n")
-        both = "wide is a table of width 9 and depth 4, and table is a table of width 8 and depth 4"
-        self.tells(["merge", "table", "wide"], both, 3)
-        self.tells(["merge", "table", "seven"], "seven has another depth or another seed", 3)
-        self.tells(["merge", "day", "most"], "most: with it the total is above 9223372036854775807", 3)
+        self.save("deep", ["table", "--width", "8", "--depth", "5"])
+        self.save("full", ["table", "--width", "8"], b"a,9223372036854775807\n")
+        self.tells(["merge", "table", "wide"], "wide: width is 9, and 8 in table", 3)
+        self.tells(["merge", "table", "table", "seven"], "seven: its seed is another than that of table", 3)
+        self.tells(["merge", "table", "deep"], "deep: depth is 5, and 4 in table", 3)
+        above = "its total is 9223372036854775807, and %d before it: together they are above 9223372036854775807"
+        self.tells(["merge", "day", "most"], f"most: {above % 11}", 3)
+        self.tells(["merge", "day", "day", "most"], f"most: {above % 22}", 3)
+        self.tells(["merge", "table", "full"], f"full: {above % 11}", 3)
         files = {
             "none": (b"", "is empty"), "text": (RECORDS, "looks like text: `heavy summarise` saves records of such"),
             "short": (b"HHS2\x01", "begins as a saved file, and is damaged or cut off"), "bytes": (b"\0\1", "looks like no saved file"),
@@ -902,7 +907,7 @@ class CommandLine(programs.Checks):
             self.names(["report", "-H", "--key", "m", "long"], f'long has no column "m"; its header has {shown}', 3)
 
     def test_reasons_of_devices(self) -> None:
-        """Why standard input can't be read, a saved file called -, and a file whose length says more than it has."""
+        """Why standard input can't be read, and a file whose length says more than it has."""
         ended = programs.run(["sh", "-c", '"$@" < /', "", self.program, "report", "--explain"], cwd=self.room)
         said = b"heavy: input could not be read\n  standard input: Is a directory\n"
         self.check("standard input that is a folder", (ended.status, ended.out, ended.err) == (1, b"", said), ended)
@@ -913,16 +918,44 @@ class CommandLine(programs.Checks):
         os.close(mouth)
         said = b"heavy: input could not be read\n  standard input: Resource temporarily unavailable\n"
         self.check("standard input that isn't waited for", (ended.status, ended.out, ended.err) == (1, b"", said), ended)
-        saved = self.save("day", ["summarise", "--k", "2"])
-        dash = "- is no saved file: /dev/stdin names standard input"
-        for words in (["merge", "-"], ["merge", "day", "-"], ["list", "-"], ["ask", "-", "a"], ["condense", "-"], ["confirm", "-", "-"]):
-            self.tells(words, dash, 1, saved)
-        Path(self.room, "-").write_bytes(saved)
-        self.expect(["merge", "-"], (0, saved, b""))
         path = "/sys/kernel/mm/transparent_hugepage/enabled"
         if os.path.exists(path) and os.path.getsize(path) > len(Path(path).read_bytes()):
             for command in (["report"], ["summarise"], ["table"]):
                 self.names([*command, path], f"{path}: it has fewer bytes than its length says; `cat` reads it into a pipe", 1)
+
+    def test_saved_standard_input(self) -> None:
+        """A saved file that is standard input, once, whatever file has the name -, and its faults."""
+        saved = self.save("day", ["summarise", "--k", "2"])
+        Path(self.room, "four").write_bytes(RECORDS)
+        Path(self.room, "-").write_bytes(b"a,1\n")
+        doubled = self.heavy(["merge", "day", "day"])[1]
+        described = b"version,2\nkind,summary\nk,2\nkeys,2\ntotal,11\ncounters,5\nslack,2\n"
+        for words, answer in [
+            (["merge", "-"], saved), (["merge", "day", "-"], doubled), (["merge", "-", "day"], doubled), (["ask", "-", "a"], b"a,4,6\n"),
+            (["list", "-"], b"a,4,6\nb,1,3\n"), (["describe", "-"], described), (["confirm", "-", "four"], b"a,6\n"),
+            (["condense", "-", "four"], b"a,6\nb,3\nothers,2\n"),
+        ]:
+            self.expect(words, (0, answer, b""), saved)
+        ended = programs.run(["sh", "-c", '"$0" merge day day | "$0" ask - a', self.program], cwd=self.room)
+        self.check("a merged file that is asked", (ended.status, ended.out, ended.err) == (0, b"a,8,12\n", b""), ended)
+        self.tells(["merge", "-", "-"], "standard input was taken by a file before it", 3, saved)
+        self.refuses(["merge", "day", "-", "day", "-"], "file 4: truncated", 3, saved)
+        self.tells(["confirm", "-", "-"], "standard input has 11, and the records have 0", 3, saved)
+        self.tells(["confirm", "-"], "standard input has 11, and the records have 0", 3, saved)
+        self.tells(["list", "-"], "standard input looks like text: `heavy summarise` saves records of such", 3)
+        self.tells(["merge", "-", "day"], "standard input is empty", 3, b"")
+        self.tells(["list", "./-"], "./- looks like text: `heavy summarise` saves records of such", 3, saved)
+        table = self.save("table", ["table", "--width", "8"])
+        self.tells(["list", "-"], "standard input is a Count-Min table", 3, table)
+        self.tells(["merge", "day", "-"], "standard input is a table of width 8 and depth 4, and day is a summary with k 2", 3, table)
+        self.tells(["merge", "-", "day"], "day is a summary with k 2, and standard input is a table of width 8 and depth 4", 3, table)
+        other = self.save("k3", ["summarise", "--k", "3"])
+        self.tells(["merge", "day", "-"], "standard input: k is 3, and 2 in day", 3, other)
+        self.tells(["merge", "-", "day"], "day: k is 2, and 3 in standard input", 3, other)
+        for more, said in (([], b""), (["--explain"], b"  standard input: Is a directory\n")):
+            ended = programs.run(["sh", "-c", '"$@" < /', "", self.program, "list", *more, "-"], cwd=self.room)
+            wanted = (1, b"", b"heavy: file 1: could not be read\n" + said)
+            self.check(f"a saved file that is a folder, {more}", (ended.status, ended.out, ended.err) == wanted, ended)
 
     def test_places_of_records(self) -> None:
         """Of random texts in files: a bad record that is put at the place that is told, with nothing behind it, has the same
@@ -1037,12 +1070,12 @@ class CommandLine(programs.Checks):
         text = b"a,6\nb,3\nc,1\n"
         two, names = "2 keys weigh more than 1/10 of the total: --k 99 shows those above 1/100", ["--names"]
         one = "1 key weighs more than 1/2 of the total: --k 19 shows those above 1/20"
-        none = "no key weighs more than %s of the total: %s"
+        none, greatest = "no key weighs more than %s of the total: %s", ", and `heavy top 1` shows the greatest"
         for words, note in [
             (["--k", "9"], ""), (["--k", "9", "--top", "2"], ""), (["--k", "9", "--top", "3"], two), (["--k", "1"], ""),
             (["--k", "1", "--top", "2"], one), (["--k", "9", "--top", "3", *names], two), (["--k", "9", "--top", "2", *names], ""),
             (["--k", "9", "--top", "3", *names, "--output", "json"], two), (["--k", "9", "--top", "3", *names, "--output", "tsv"], two),
-            (["--threshold", "9/10"], none % ("9/10", "a smaller --threshold shows more")), (["--threshold", "1/2"], ""),
+            (["--threshold", "9/10"], none % ("9/10", "a smaller --threshold shows more" + greatest)), (["--threshold", "1/2"], ""),
             (["--k", "9999", "--top", "4"], "3 keys weigh more than 1/10000 of the total: --k 65535 shows those above 1/65536"),
             (["--k", "65535", "--top", "4"], "3 keys weigh more than 1/65536 of the total: `heavy top 4` shows the greatest"),
             (["--k", "9", "--threshold", "1/10", "--top", "3"],
@@ -1054,7 +1087,7 @@ class CommandLine(programs.Checks):
              "3 keys weigh more than 1/65536 of the total: `heavy top 4` shows the greatest"),
         ]:
             self.notes(["report", *words], note, text)
-        self.notes(["report", "--k", "1"], none % ("1/2", "--k 19 shows those above 1/20"), b"a\nb\n")
+        self.notes(["report", "--k", "1"], none % ("1/2", "--k 19 shows those above 1/20" + greatest), b"a\nb\n")
         self.notes(["report", "--k", "1", "--top", "1"], "", b'"a\nb"\n')
         Path(self.room, "empty").write_bytes(b"")
         Path(self.room, "header").write_bytes(b'\n"k\nl",w\n\n')
@@ -1064,7 +1097,18 @@ class CommandLine(programs.Checks):
         ]:
             self.notes(["report", *words], "there are no records", given)
         self.notes(["report", "--top", "0"], "")
-        self.notes(["report", "-H", "--k", "1", "header", "-"], none % ("1/2", "--k 19 shows those above 1/20"), b"k\na\nb\n")
+        self.notes(["report", "-H", "--k", "1", "header", "-"], none % ("1/2", "--k 19 shows those above 1/20" + greatest), b"k\na\nb\n")
+        self.save("day", ["summarise", "--k", "2"])
+        self.save("even", ["summarise", "--k", "1"], b"a\nb\n")
+        self.save("nothing", ["summarise"], b"")
+        shows = "`heavy top 1` shows the greatest"
+        for words, note, given in [
+            (["day"], "", RECORDS), (["--threshold", "3/5", "day"], none % ("3/5", shows), RECORDS), (["even"], none % ("1/2", shows), b"b\na\n"),
+            (["--threshold", "1/2", *names, "even"], none % ("1/2", shows), b"b\na\n"), (["nothing"], "there are no records", b""),
+            (["-n", "3", "-t", "3/5", "day"], none % ("3/5", shows.replace("1", "3")), RECORDS), (["-n", "0", "-t", "3/5", "day"], "", RECORDS),
+            (["-n", "2", "day"], "", RECORDS),
+        ]:
+            self.notes(["confirm", *words], note, given)
 
     def test_notes_about_last_records(self) -> None:
         """A last record that begins with a quote and has more than 100 lines, in the last 65,536 bytes: one line, always."""

@@ -34,6 +34,8 @@ OPTION = re.compile(r"^ +(?:-(\w), )?--([a-z-]+)(?: <(\S+)>)?  +(.*)$", re.MULTI
 NUMBERS = re.compile(r"from (\d+) to (\d+) \[default: (\d+)\]")
 # the values that an option's text names
 VALUES = {"method": "mg ss", "output": "csv tsv json", "tree": "balanced chain"}
+# the value of an option that names a file
+FILE = "FILE"
 # the options that may be given several times
 REPEATED = {"key"}
 # a shell, the words that start it on a terminal with no settings, and how it takes our completions there
@@ -154,7 +156,8 @@ def told_by(program: str) -> Told:
 def made_bash(told: Told) -> str:
     """The completion of bash."""
     every = [option for shown in told.own().values() for option in shown.options]
-    valued = dict.fromkeys(word for it in every if it.value and it.name not in VALUES for word in it.spellings())
+    chosen = [it for it in every if it.value and it.value != FILE and it.name not in VALUES]
+    valued = dict.fromkeys(word for it in chosen for word in it.spellings())
     values = "".join(
         f"    --{name}) mapfile -t COMPREPLY < <(compgen -W '{words}' -- \"$cur\"); return ;;\n" for name, words in VALUES.items()
     )
@@ -196,7 +199,9 @@ def zsh_option(option: Option) -> list[str]:
     text = re.sub(r"([\[\]\\])", r"\\\1", option.about())
     excluded = "*" if option.name in REPEATED else f"({' '.join(option.spellings())})" if option.letter else ""
     value = f":{option.value}:" if option.value else ""
-    if option.name in VALUES:
+    if option.value == FILE:
+        value += "_files"
+    elif option.name in VALUES:
         value += f"({VALUES[option.name]})"
     ends = {spelling: "=" if spelling.startswith("--") else "+" for spelling in option.spellings()} if option.value else {}
     return [f"{excluded}{spelling}{ends.get(spelling, '')}[{text}]{value}" for spelling in option.spellings()]
@@ -257,7 +262,7 @@ def made_fish(told: Told) -> str:
     for (letter, option, value, about), names in of.items():
         named = [name for name in names if name]
         where = f"-n '__fish_seen_subcommand_from {' '.join(named)}'" if named else "-n __fish_use_subcommand"
-        words = [f"-s {letter}"] * bool(letter) + [f"-l {option}"] + ["-x"] * bool(value)
+        words = [f"-s {letter}"] * bool(letter) + [f"-l {option}"] + ["-r -F" if value == FILE else "-x"] * bool(value)
         words += [f"-a '{VALUES[option]}'"] if option in VALUES else []
         lines.append(f"complete -c heavy {where} {' '.join(words)} -d {fish_quoted(about)}")
     own = " ".join(told.own())

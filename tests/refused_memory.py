@@ -246,6 +246,8 @@ def of_summaries(room: str, records: str, bad: str) -> list[Row]:
     return [
         (["merge", saved, saved], b"", (0, reference.merge([short, short]), b"")),
         (["merge", long, long], b"", (0, reference.merge([whole, whole]), b"")),
+        (["merge", "-o", f"{room}/new", saved, saved], b"", (0, b"", b"")),
+        (["ask", "-", "a"], short, (0, b"a,4,6\n", b"")),
         (["merge", saved, table], b"", (3, b"", b"heavy: file 2: another kind\n")),
         (["merge", f"{room}/none"], b"", (1, b"", b"heavy: file 1: could not be read\n")),
         (["ask", saved, "a", "z" * 40], b"", (0, b"a,4,6\n" + b"z" * 40 + b",0,2\n", b"")),

@@ -143,9 +143,14 @@ Answers gives opens verb.Describe asked refuses outside bytes = OfSaved gives as
 abbrev pub refuses_contradictions : RecordWords → Bool
 refuses_contradictions words = not (are_plain words)
 
+-- these bytes answer what was asked for on the command line
+abbrev pub IsAnswer : (List ℕ → Option (List ℕ) → Type 0) → (Bool → List ℕ → Option (List ℕ) → Type 0) → Asked
+    → Option Outside → List ℕ → Type 0
+IsAnswer gives opens asked outside bytes =
+    Answers gives opens asked.verb asked (refuses_contradictions asked.records) outside bytes
+
 -- what was asked for on the command line was answered: what answers it was written, and nothing else
 abbrev pub IsAnswered : (List ℕ → Option (List ℕ) → Type 0) → (Bool → List ℕ → Option (List ℕ) → Type 0) → Asked
     → Option Outside → Option (List ℕ) → Option (List ℕ) → Type 0
 IsAnswered gives opens asked outside old new =
-    (bytes : List ℕ) × Answers gives opens asked.verb asked (refuses_contradictions asked.records) outside bytes
-    × Appends old new bytes
+    (bytes : List ℕ) × IsAnswer gives opens asked outside bytes × Appends old new bytes

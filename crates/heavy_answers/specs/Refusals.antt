@@ -29,6 +29,7 @@ use Rattle.hh_files.specs.SummaryFiles.{bad_summary_of_files}
 use Rattle.hh_files.specs.TableFiles.{bad_table_of_files}
 use Rattle.hh_files.specs.TopFiles.{TopFilesRefused}
 use Rattle.heavy_host.specs.Files.{AreRead}
+use Rattle.heavy_host.specs.Replacing.{IsUnwritten}
 use Rattle.heavy_arguments.specs.declared.verbs.Pass.{Pass}
 use Rattle.heavy_arguments.specs.declared.verbs.Pass.TheVariants as pass
 use Rattle.heavy_arguments.specs.declared.verbs.Verb.{Verb}
@@ -186,6 +187,12 @@ Fails gives opens unopened verb.Ask asked refuses e =
     SavedFails gives asked (λ file. Refuses (answers_in asked.rows.output file (map (λ w. w.items) asked.keys.items))) e
 Fails gives opens unopened verb.List asked refuses e = SavedFails gives asked SummaryRefused e
 Fails gives opens unopened verb.Describe asked refuses e = SavedFails gives asked (λ file. Refuses (description asked.rows.output file)) e
+
+-- what was asked for on the command line is refused before it is written, or its file can't be written
+abbrev pub IsRefusedInFile : (List ℕ → Option (List ℕ) → Type 0) → (Bool → List ℕ → Option (List ℕ) → Type 0)
+    → (List ℕ → ℕ → ToolError → Type 0) → Asked → ToolError → Type 0
+IsRefusedInFile gives opens unopened asked e =
+    Fails gives opens unopened asked.verb asked (refuses_contradictions asked.records) e ⊎ IsUnwritten e
 
 -- what was asked for on the command line is refused. Nothing is written, but where the answer could not be: then a part of it
 abbrev pub IsRefused : (List ℕ → Option (List ℕ) → Type 0) → (Bool → List ℕ → Option (List ℕ) → Type 0)

@@ -1,11 +1,15 @@
 //! The calls of the libraries that answer what is asked for.
 
 ghost use Rattle.std.specs.Prelude.{◌≡◌, ◌⊎◌, false, map, true, IfErr, IfOk, OnOk};
+ghost use Rattle.std.specs.Io.KnownBytes.{Keeps};
+ghost use Rattle.heavy_host.specs.Replacing.{IsReplaced};
 ghost use Rattle.hh_commands.specs.Files.{Refuses};
 ghost use Rattle.hh_commands.specs.Merge.{merged_files};
-ghost use Rattle.heavy_answers.specs.Answers.{Answers, IsAnswered, MakesMerge, OfRecords};
+ghost use Rattle.heavy_answers.specs.Answers.{Answers, IsAnswer, IsAnswered, MakesMerge};
+ghost use Rattle.heavy_answers.specs.Answers.{OfRecords};
 ghost use Rattle.heavy_answers.specs.Answers.{PrintsReport};
-ghost use Rattle.heavy_answers.specs.Refusals.{Fails, FilesFail, IsRefused, OpenRefused};
+ghost use Rattle.heavy_answers.specs.Refusals.{Fails, FilesFail, IsRefused, IsRefusedInFile};
+ghost use Rattle.heavy_answers.specs.Refusals.{OpenRefused};
 ghost use Rattle.heavy_answers.specs.Refusals.{ReportFails, ReportRefused, TopFails};
 ghost use Rattle.hh_files.specs.Report.{AreOptions, PrintsRows};
 ghost use Rattle.hh_files.specs.TopFiles.{PrintsTop};
@@ -15,7 +19,7 @@ use crate::opening::{into_kept, open, open_records};
 use crate::saved_files::{opened_files, saved_file};
 use crate::single_pass::in_one_pass;
 use heavy_arguments::Verb;
-use heavy_host::read_files;
+use heavy_host::{Replaced, read_files, replace};
 use heavy_requests::Asked;
 use hh_commands::{Comparison, ask_rows, describe_file, list_rows, merge_bytes};
 use hh_faults::ToolError;
@@ -177,4 +181,29 @@ pub fn answer<T: Threads + Wait + Sync, H: Host, S: Sink>(
     let bytes = bytes_of(threads, host, asked, compared)?;
     put(sink, &bytes)?;
     Ok(())
+}
+
+/// Answers the command line `asked` as [`answer`] does, in a new file that replaces `file`, and
+/// gives its bytes. Where that fails, `file` is as it was, and no new one stands beside it. The new
+/// one is made once the whole answer is known.
+pub fn answer_in_file<T: Threads + Wait + Sync, H: Host, R: Replaced>(
+    threads: &T,
+    host: &H,
+    asked: &Asked,
+    file: &mut R,
+    compared: &mut Comparison,
+) -> Result<Vec<u8>, ToolError>
+    ensures answered { IfOk result (λ bytes. IsAnswer (H.gives host.now) (H.opens host.now)
+        asked.now compared.new.outside bytes.items) }
+    ensures replaced { IfOk result (λ bytes.
+        IsReplaced (R.holds file.old) (R.holds file.new) bytes.items) }
+    ensures refused { IfErr result (IsRefusedInFile (H.gives host.now) (H.opens host.now)
+        (H.unopened host.now) asked.now) }
+    ensures kept { IfErr result (λ _. Keeps (R.holds file.old) (R.holds file.new)) }
+    ensures alone { R.is_alone file.old ≡ true → R.is_alone file.new ≡ true }
+{
+    compared.refuses = !asked.records.are_plain();
+    let bytes = bytes_of(threads, host, asked, compared)?;
+    replace(file, &bytes)?;
+    Ok(bytes)
 }

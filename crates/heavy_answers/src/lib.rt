@@ -8,5 +8,5 @@ mod opening;
 mod saved_files;
 mod single_pass;
 
-pub use answering::answer;
+pub use answering::{answer, answer_in_file};
 pub use host::Host;

@@ -79,6 +79,14 @@ pub const NAMES: Named = Argument {
     help: "Print a first row with the columns' names",
 };
 
+/// The file that an answer replaces.
+pub const OUT: Named = Argument {
+    name: "out",
+    letter: Some('o'),
+    kind: Kind::Filled("FILE"),
+    help: "Write to FILE: a new file takes its place once it is whole [default: standard output]",
+};
+
 pub const METHOD: Named = Argument {
     name: "method",
     letter: None,
@@ -178,21 +186,21 @@ pub const SAVED_FILE: Named = Argument {
     name: "FILE",
     letter: None,
     kind: Kind::Word,
-    help: "A saved file",
+    help: "A saved file; - is standard input, once",
 };
 
 pub const SAVED_SUMMARY: Named = Argument {
     name: "FILE",
     letter: None,
     kind: Kind::Word,
-    help: "A saved summary",
+    help: "A saved summary; - is standard input, once",
 };
 
 pub const SAVED_FILES: Named = Argument {
     name: "FILE",
     letter: None,
     kind: Kind::Words,
-    help: "A saved file",
+    help: "A saved file; - is standard input, once",
 };
 
 pub const KEYS: Named = Argument {
@@ -338,30 +346,56 @@ pub(crate) struct CommandWords {
 }
 
 pub const REPORT_ARGUMENTS: &[Named] = &[
-    EXPLAIN, PROGRESS, K, THRESHOLD, TOP, SHARE, OUTPUT, NAMES, ONCE, RECORDS,
+    EXPLAIN, PROGRESS, K, THRESHOLD, TOP, SHARE, OUTPUT, NAMES, OUT, ONCE, RECORDS,
 ];
 
 pub const TOP_ARGUMENTS: &[Named] = &[
-    EXPLAIN, PROGRESS, SHARE, OUTPUT, NAMES, WORKERS, TOP_MEMORY, GREATEST, RECORDS,
+    EXPLAIN, PROGRESS, SHARE, OUTPUT, NAMES, OUT, WORKERS, TOP_MEMORY, GREATEST, RECORDS,
 ];
 
-pub const SUMMARISE_ARGUMENTS: &[Named] = &[EXPLAIN, PROGRESS, K, METHOD, SUMMARY_WORKERS, RECORDS];
+pub const SUMMARISE_ARGUMENTS: &[Named] = &[
+    EXPLAIN,
+    PROGRESS,
+    K,
+    METHOD,
+    SUMMARY_WORKERS,
+    OUT,
+    RECORDS,
+];
 
-pub const TABLE_ARGUMENTS: &[Named] = &[EXPLAIN, PROGRESS, WIDTH, DEPTH, SEED, WORKERS, RECORDS];
+pub const TABLE_ARGUMENTS: &[Named] = &[
+    EXPLAIN, PROGRESS, WIDTH, DEPTH, SEED, WORKERS, OUT, RECORDS,
+];
 
-pub const MERGE_ARGUMENTS: &[Named] = &[EXPLAIN, SAVED_FILES];
+pub const MERGE_ARGUMENTS: &[Named] = &[EXPLAIN, OUT, SAVED_FILES];
 
-pub const ASK_ARGUMENTS: &[Named] = &[EXPLAIN, PRINTED_DECIMALS, OUTPUT, NAMES, SAVED_FILE, KEYS];
+pub const ASK_ARGUMENTS: &[Named] = &[
+    EXPLAIN,
+    PRINTED_DECIMALS,
+    OUTPUT,
+    NAMES,
+    OUT,
+    SAVED_FILE,
+    KEYS,
+];
 
-pub const LIST_ARGUMENTS: &[Named] = &[EXPLAIN, PRINTED_DECIMALS, OUTPUT, NAMES, SAVED_SUMMARY];
+pub const LIST_ARGUMENTS: &[Named] = &[
+    EXPLAIN,
+    PRINTED_DECIMALS,
+    OUTPUT,
+    NAMES,
+    OUT,
+    SAVED_SUMMARY,
+];
 
-pub const DESCRIBE_ARGUMENTS: &[Named] = &[EXPLAIN, OUTPUT, NAMES, SAVED_FILE];
+pub const DESCRIBE_ARGUMENTS: &[Named] = &[EXPLAIN, OUTPUT, NAMES, OUT, SAVED_FILE];
 
 pub const CONDENSE_ARGUMENTS: &[Named] = &[
     EXPLAIN,
     PROGRESS,
     OUTPUT,
     NAMES,
+    OUT,
     WORKERS,
     SAVED_SUMMARY,
     RECORDS,
@@ -375,6 +409,7 @@ pub const CONFIRM_ARGUMENTS: &[Named] = &[
     SHARE,
     OUTPUT,
     NAMES,
+    OUT,
     WORKERS,
     SAVED_SUMMARY,
     RECORDS,

@@ -20,9 +20,11 @@ Records come from files or standard input, one a line, as CSV without a header:
 key,weight or a key alone, which weighs 1. A key has 1 to 4096 bytes, a weight is a
 number from 1 on, and all weights together are at most 9223372036854775807. A key with
 a comma, a quote or a line feed in it stands in quotes. Options of the commands that
-read records say where key and weight stand in others. Answers go to standard output; a
-fault is one line on standard error, and two on a terminal, with --explain, and where
-records of files are at fault.",
+read records say where key and weight stand in others. Answers go to standard output or,
+with -o FILE, to a new file, which is flushed to the disk and takes the place of FILE
+once it is whole: after a fault FILE is as it was. A fault is one line on standard
+error, and two on a terminal, with --explain, and where records of files or FILE are at
+fault.",
     end: "Exit status: 0 done; 1 a device failed (input, output or a file); 2 wrong usage;
 3 refused input (a record, a file or a key); 4 out of memory.
 
@@ -122,7 +124,7 @@ pub const MERGE: Help = Help {
     about: "Merge saved files, and write the result to standard output",
     whole: "Merge saved files, and write the result to standard output: summaries of one k, or
 tables of one width, depth and seed. The result stands for the records of all. All files
-are held in memory at once. None is standard input: - is a file's name here.
+are held in memory at once. One of them may be -, standard input.
 A word that begins with - is given after --",
     end: "Exit status: 0 the result is whole; 1 a file could not be read or output not be
 written; 2 wrong usage; 3 a file is damaged or of another kind; 4 out of memory.

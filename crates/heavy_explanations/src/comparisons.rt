@@ -53,8 +53,7 @@ pub(crate) fn tell_uncertain(rt: &HostRuntime, uncertain: u64, memory: u64) {
 }
 
 /// Prints two totals that differ, with `decimals` digits after the point.
-pub(crate) fn tell_totals(rt: &HostRuntime, name: &[u8], totals: Totals, decimals: u8) {
-    let name = Name(name);
+pub(crate) fn tell_totals(rt: &HostRuntime, name: Name<'_>, totals: Totals, decimals: u8) {
     let summary = pointed_by(rt, totals.summary, decimals);
     let records = pointed_by(rt, totals.records, decimals);
     let _ = eprintln!(rt; "  {name} has {summary}, and the records have {records}");
@@ -65,11 +64,11 @@ pub(crate) fn tell_totals(rt: &HostRuntime, name: &[u8], totals: Totals, decimal
 pub(crate) fn tell_outside(
     rt: &HostRuntime,
     words: &str,
-    name: &[u8],
+    name: Name<'_>,
     outside: &Outside,
     decimals: u8,
 ) {
-    let (name, key) = (Name(name), outside.key.bytes().escape_ascii());
+    let key = outside.key.bytes().escape_ascii();
     let low = pointed_by(rt, outside.low, decimals);
     let high = pointed_by(rt, outside.high, decimals);
     let weight = pointed_by(rt, outside.weight, decimals);

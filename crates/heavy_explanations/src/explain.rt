@@ -5,12 +5,10 @@ use crate::bad_records::tell_record;
 use crate::columns::tell_columns;
 use crate::comparisons::{tell_next, tell_outside, tell_totals, tell_uncertain};
 use crate::escaped::{Name, print_about};
-use crate::file_names::FileNames;
-use crate::first_bytes::tell_looks;
-use crate::reasons::{tell_standard, tell_unkept, tell_unread};
+use crate::reasons::{tell_standard, tell_unkept, tell_unread, tell_unwritten};
 use crate::record_place::Texts;
-use crate::saved_kinds::{tell_kinds, tell_unmerged};
-use heavy_host::{Unread, is_standard};
+use crate::saved_kinds::SavedFiles;
+use heavy_host::Unread;
 use heavy_requests::Asked;
 use hh_commands::Comparison;
 use hh_faults::ToolError;
@@ -23,43 +21,25 @@ pub(crate) fn names_records(fault: &ToolError, asked: &Asked) -> bool {
     }
     match fault {
         ToolError::FileFault { number } => *number > asked.saved_before_records(),
-        ToolError::BadRecord { .. } | ToolError::NoColumn => true,
+        ToolError::ReadFault | ToolError::BadRecord { .. } | ToolError::NoColumn => true,
         _ => false,
     }
 }
 
-/// Whether the file `number` of `names` is a saved one with the name that standard input has among
-/// records.
-fn is_dash(names: FileNames<'_>, number: u64) -> bool {
-    names.is_saved(number) && is_standard(names.name(number))
-}
-
-/// Prints more about the `fault` of a file, one of `names`, where there is more to say.
-pub(crate) fn explain_file(
-    rt: &HostRuntime,
-    names: FileNames<'_>,
-    fault: &ToolError,
-    unread: &Unread,
-) {
+/// Prints more about the `fault` of one of the `files`, where there is more to say.
+pub(crate) fn explain_file(files: SavedFiles<'_>, fault: &ToolError, unread: &Unread) {
+    let (rt, names) = (files.rt, files.names);
     match fault {
         ToolError::ReadFault | ToolError::FileFault { .. } if unread.is_unkept() => {
             tell_unkept(rt, unread);
         }
         ToolError::ReadFault => tell_standard(rt, unread),
-        ToolError::FileFault { number } if is_dash(names, *number) => {
-            print_about(
-                rt,
-                Name(b"-"),
-                " ",
-                "is no saved file: /dev/stdin names standard input",
-            );
-        }
         ToolError::FileFault { number } => tell_unread(rt, names.input(*number), unread),
-        ToolError::BadFile { number, .. } => tell_looks(rt, names.name(*number)),
-        ToolError::MixedKinds { number } => tell_kinds(rt, names, *number),
-        ToolError::CannotMerge { number, cause } => tell_unmerged(rt, names, *number, *cause),
+        ToolError::BadFile { number, .. } => files.tell_looks(*number),
+        ToolError::MixedKinds { number } => files.tell_kinds(*number),
+        ToolError::CannotMerge { number, cause } => files.tell_unmerged(*number, *cause),
         ToolError::NotCounters => {
-            print_about(rt, Name(names.name(1)), " ", "is a Count-Min table");
+            print_about(rt, names.input(1), " ", "is a Count-Min table");
         }
         _ => {}
     }
@@ -69,7 +49,7 @@ pub(crate) fn explain_file(
 /// `decimals` digits after the point of a weight.
 pub(crate) fn explain_comparison(
     rt: &HostRuntime,
-    name: &[u8],
+    name: Name<'_>,
     fault: &ToolError,
     compared: &Comparison,
     decimals: u8,
@@ -86,6 +66,13 @@ pub(crate) fn explain_comparison(
             }
         }
         _ => {}
+    }
+}
+
+/// Prints why the file that was `asked` for couldn't be written, where that is the `fault`.
+pub(crate) fn explain_out(rt: &HostRuntime, fault: &ToolError, asked: &Asked, unread: &Unread) {
+    if let (ToolError::WriteFault { .. }, Some(name)) = (fault, &asked.out) {
+        tell_unwritten(rt, Name(name.as_slice()), unread);
     }
 }
 

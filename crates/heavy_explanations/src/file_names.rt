@@ -42,17 +42,8 @@ impl<'a> FileNames<'a> {
         }
     }
 
-    /// Whether the file `number` is a saved one, for which `-` is a name as any other.
-    pub(crate) fn is_saved(self, number: u64) -> bool {
-        number > 0 && number <= self.saved.len() as u64
-    }
-
     /// Gives what the input `number` is called.
     pub(crate) fn input(self, number: u64) -> Name<'a> {
-        if self.is_saved(number) {
-            Name(self.name(number))
-        } else {
-            input_name(self.name(number), number)
-        }
+        input_name(self.name(number), number)
     }
 }

@@ -1,6 +1,5 @@
 //! What a file looks like by its first bytes.
 
-use crate::escaped::{Name, print_about};
 use std::fs::{self, File};
 use std::io::Read;
 
@@ -66,7 +65,7 @@ pub(crate) fn other_format(bytes: &[u8]) -> Option<&'static str> {
 }
 
 /// Says what the `bytes` of a file that is refused look like.
-fn looks(bytes: &[u8]) -> &'static str {
+pub(crate) fn looks(bytes: &[u8]) -> &'static str {
     match said_of(&OTHERS, bytes).or(said_of(&SAVED, bytes)) {
         Some(said) => said,
         None if bytes.is_empty() => "is empty",
@@ -98,11 +97,4 @@ pub(crate) fn bytes_of(rt: &HostRuntime, file: File) -> Option<Vec<u8>> {
 /// Reads the first bytes of the file `name`, where it is one of the disk.
 pub(crate) fn begin_of(rt: &HostRuntime, name: &[u8]) -> Option<Vec<u8>> {
     bytes_of(rt, disk_file(rt, name)?)
-}
-
-/// Prints what the file `name`, which is refused, looks like by its first bytes.
-pub(crate) fn tell_looks(rt: &HostRuntime, name: &[u8]) {
-    if let Some(bytes) = begin_of(rt, name) {
-        print_about(rt, Name(name), " ", looks(&bytes));
-    }
 }

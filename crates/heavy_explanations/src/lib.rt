@@ -16,4 +16,4 @@ mod saved_kinds;
 mod status;
 mod thresholds;
 
-pub use status::{status_of, status_of_usage};
+pub use status::{status_of, status_of_kind, status_of_usage};

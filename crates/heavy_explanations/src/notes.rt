@@ -2,8 +2,9 @@
 
 use crate::escaped::Name;
 use crate::file_names::FileNames;
+use crate::saved_kinds::SavedFiles;
 use crate::thresholds::{MOST_COUNTERS, is_least};
-use heavy_arguments::Verb;
+use heavy_arguments::{Pass, Verb};
 use heavy_progress::{FormatHints, LongRecord};
 use heavy_requests::Asked;
 use hh_records::{Format, LayoutWords};
@@ -70,12 +71,39 @@ pub(crate) fn print_long(rt: &HostRuntime, long: Option<LongRecord>, names: File
 #[derive(Clone, Copy)]
 struct KeysAbove(u64);
 
+impl KeysAbove {
+    /// Gives what `heavy top` shows, where there are none.
+    fn and_top(self, top: u64) -> AndTop {
+        AndTop {
+            are_none: self.0 == 0,
+            top,
+        }
+    }
+}
+
 impl Display for KeysAbove {
     fn fmt<W: fmt::Write>(&self, f: &mut fmt::Formatter<W>) -> fmt::Result {
         match self.0 {
             0 => f.write_str("no key weighs"),
             1 => f.write_str("1 key weighs"),
             number => write!(f, "{number} keys weigh"),
+        }
+    }
+}
+
+/// What `heavy top` shows, behind what else shows more, where there are no keys.
+#[derive(Clone, Copy)]
+struct AndTop {
+    are_none: bool,
+    top: u64,
+}
+
+impl Display for AndTop {
+    fn fmt<W: fmt::Write>(&self, f: &mut fmt::Formatter<W>) -> fmt::Result {
+        if self.are_none {
+            write!(f, ", and {}", More::Top(self.top))
+        } else {
+            Ok(())
         }
     }
 }
@@ -88,16 +116,17 @@ fn print_above_counters(rt: &HostRuntime, keys: KeysAbove, k: u64, top: u64) {
         .saturating_mul(10)
         .saturating_sub(1)
         .min(MOST_COUNTERS);
+    let greatest = keys.and_top(top);
     let _ = if k < next {
         eprintln!(rt;
             "heavy: note: {keys} more than 1/{least} of the total: --k {next} shows those above \
-            1/{}",
+            1/{}{greatest}",
             next.saturating_add(1)
         )
     } else {
         eprintln!(rt;
-            "heavy: note: {keys} more than 1/{least} of the total: `heavy top {top}` shows the \
-            greatest"
+            "heavy: note: {keys} more than 1/{least} of the total: {}",
+            More::Top(top)
         )
     };
 }
@@ -132,32 +161,52 @@ fn print_above(rt: &HostRuntime, keys: KeysAbove, share: &Share, k: u64, top: u6
             } else {
                 More::Top(top)
             };
-            let word = Name(word);
-            let _ = eprintln!(rt; "heavy: note: {keys} more than {word} of the total: {more}");
+            let (word, greatest) = (Name(word), keys.and_top(top));
+            let _ = match more {
+                More::Top(_) => {
+                    eprintln!(rt; "heavy: note: {keys} more than {word} of the total: {more}")
+                }
+                _ => eprintln!(rt;
+                    "heavy: note: {keys} more than {word} of the total: {more}{greatest}"
+                ),
+            };
         }
         Share::OfCounters => print_above_counters(rt, keys, k, top),
     }
 }
 
+/// Prints that no key of the first of the saved `files` is above the `share`, and what `heavy top`
+/// does. The summary has a k of its own, which isn't known where the file can't be looked at.
+fn print_none_confirmed(files: SavedFiles<'_>, share: &Share, top: u64) {
+    let (rt, none) = (files.rt, "heavy: note: no key weighs more than");
+    let more = More::Top(top);
+    let _ = match (share, files.counters()) {
+        (Share::Text(word), _) => eprintln!(rt; "{none} {} of the total: {more}", Name(word)),
+        (Share::OfCounters, Some(k)) => {
+            eprintln!(rt; "{none} 1/{} of the total: {more}", k.saturating_add(1))
+        }
+        (Share::OfCounters, None) => eprintln!(rt; "{none} 1/(k+1) of the total: {more}"),
+    };
+}
+
 /// Prints how many keys a report has, of which `rows` were written, where it has fewer than were
-/// asked for or none, and what shows more; and where it has none, whether it `has_records`.
-pub(crate) fn print_few_keys(rt: &HostRuntime, asked: &Asked, rows: u64, has_records: bool) {
-    if asked.verb != Verb::Report {
+/// asked for or none, and what shows more; and where it has none, whether it `has_records`. Of
+/// `confirm` it does so where there are none, with the k of the first of the saved `files`.
+pub(crate) fn print_few_keys(files: SavedFiles<'_>, asked: &Asked, rows: u64, has_records: bool) {
+    let (rt, is_confirmed) = (files.rt, asked.verb == Verb::Pass(Pass::Confirm));
+    if asked.verb != Verb::Report && !is_confirmed {
         return;
     }
     let output = asked.rows.output;
     let has_header = output.has_names && output.form != Form::Json;
     let keys = rows.saturating_sub(u64::from(has_header));
     let top = asked.rows.top.unwrap_or(1);
+    let share = &asked.options.threshold;
     if keys < top && !has_records {
         let _ = rt.eprintln("heavy: note: there are no records");
-    } else if keys < top {
-        print_above(
-            rt,
-            KeysAbove(keys),
-            &asked.options.threshold,
-            asked.options.k,
-            top,
-        );
+    } else if keys < top && !is_confirmed {
+        print_above(rt, KeysAbove(keys), share, asked.options.k, top);
+    } else if keys == 0 && top > 0 {
+        print_none_confirmed(files, share, top);
     }
 }

@@ -1,4 +1,4 @@
-//! Why an input can't be read, or kept.
+//! Why an input can't be read, or kept, and why a file can't be written.
 
 use crate::escaped::{Name, print_about};
 use crate::first_bytes::disk_file;
@@ -52,11 +52,28 @@ fn reason_of(rt: &HostRuntime, name: &[u8]) -> &'static str {
     }
 }
 
+/// Prints that the name of a file isn't UTF-8, where that is so: then it can't be opened.
+fn tells_name(rt: &HostRuntime, name: Name<'_>) -> bool {
+    let is_none = str::from_utf8(name.0).is_err();
+    if is_none {
+        print_about(rt, name, ": ", "its name isn't UTF-8");
+    }
+    is_none
+}
+
+/// Prints why the file `name` couldn't be written, where that is known.
+pub(crate) fn tell_unwritten(rt: &HostRuntime, name: Name<'_>, unread: &Unread) {
+    if !tells_name(rt, name) {
+        tell_error(rt, name, unread, None);
+    }
+}
+
 /// Prints why the file `name` couldn't be read when it was tried.
 pub(crate) fn tell_unread(rt: &HostRuntime, name: Name<'_>, unread: &Unread) {
-    if str::from_utf8(name.0).is_err() {
-        print_about(rt, name, ": ", "its name isn't UTF-8");
-    } else if unread.error().is_some() {
+    if tells_name(rt, name) {
+        return;
+    }
+    if unread.error().is_some() {
         tell_error(rt, name, unread, None);
     } else {
         print_about(rt, name, ": ", reason_of(rt, name.0));

@@ -7,9 +7,9 @@ ghost use Rattle.heavy_explanations.specs.Usage.{EndsUsage};
 ghost use Rattle.hh_faults.specs.Status.{status_of};
 
 use crate::comparisons::tell_outside;
-use crate::escaped::Lines;
+use crate::escaped::{Lines, Name};
 use crate::explain::{
-    explain_comparison, explain_file, explain_open, explain_records, names_records,
+    explain_comparison, explain_file, explain_open, explain_out, explain_records, names_records,
 };
 use crate::file_names::FileNames;
 use crate::notes::{
@@ -17,8 +17,9 @@ use crate::notes::{
 };
 use crate::record_place::Texts;
 use crate::samples::{format_hints, with_files};
+use crate::saved_kinds::SavedFiles;
 use crate::thresholds::tell_threshold;
-use heavy_host::{numbered, print_fault, status_after};
+use heavy_host::{OtherKind, numbered, print_fault, status_after};
 use heavy_inputs::Inputs;
 use heavy_requests::{Asked, UsageReport};
 use hh_commands::Comparison;
@@ -39,26 +40,43 @@ fn texts_of<'a>(inputs: Inputs<'a>, asked: &'a Asked) -> Texts<'a> {
     }
 }
 
+/// Gathers what can be looked at again of the saved files that `asked` names.
+fn saved_files<'a>(inputs: Inputs<'a>, asked: &'a Asked) -> SavedFiles<'a> {
+    SavedFiles {
+        rt: inputs.rt,
+        names: FileNames::of(asked),
+        begin: &inputs.notes.begin,
+    }
+}
+
 /// Prints more about the `fault` of what was `asked` for, by what was noted of the inputs and
 /// `compared`.
 fn explain(inputs: Inputs<'_>, fault: &ToolError, asked: &Asked, compared: &Comparison) {
     let (rt, notes, records) = (inputs.rt, inputs.notes, &asked.records);
-    let names = FileNames::of(asked);
+    let files = saved_files(inputs, asked);
     if let ToolError::BadThreshold = fault {
         tell_threshold(rt, asked);
     }
-    explain_file(rt, names, fault, &notes.unread);
-    explain_comparison(rt, names.name(1), fault, compared, records.layout.decimals);
+    explain_file(files, fault, &notes.unread);
+    explain_out(rt, fault, asked, &notes.unread);
+    let (first, decimals) = (files.names.input(1), records.layout.decimals);
+    explain_comparison(rt, first, fault, compared, decimals);
     explain_open(rt, fault, asked);
     explain_records(texts_of(inputs, asked), fault);
 }
 
 /// Prints a fault of what was asked for. More about it comes where that is asked for, standard
-/// error is a terminal, the fault is one of records that are named, or a pipe could not be kept.
+/// error is a terminal, the fault is one of records that are named, a pipe could not be kept, or a
+/// file that is named could not be written.
 fn print_explained(inputs: Inputs<'_>, fault: &ToolError, asked: &Asked, compared: &Comparison) {
     print_fault(inputs.rt, fault);
     let is_unkept = inputs.notes.unread.is_unkept();
-    if is_unkept || asked.explains_faults(inputs.rt) || names_records(fault, asked) {
+    let is_unwritten = matches!(fault, ToolError::WriteFault { .. }) && asked.out.is_some();
+    if is_unkept
+        || is_unwritten
+        || asked.explains_faults(inputs.rt)
+        || names_records(fault, asked)
+    {
         explain(inputs, fault, asked, compared);
     }
 }
@@ -93,6 +111,25 @@ pub fn status_of_usage(rt: &HostRuntime, report: &UsageReport) -> ExitCode
     }
 }
 
+/// Says what `kind` is that no new file replaces.
+fn words_of(kind: OtherKind) -> &'static str {
+    match kind {
+        OtherKind::Standard => "stands for a standard stream",
+        OtherKind::Folder => "is a folder",
+        OtherKind::Device => "is a device",
+        OtherKind::Pipe => "is a pipe",
+        OtherKind::Socket => "is a socket",
+    }
+}
+
+/// Prints that `name`, which was given for a file to write, is of another `kind`, and gives the
+/// status of wrong usage.
+pub fn status_of_kind(rt: &HostRuntime, name: &[u8], kind: OtherKind) -> ExitCode {
+    let (name, words) = (Name(name), words_of(kind));
+    let _ = eprintln!(rt; "heavy: --out takes a file, and {name} {words}");
+    ExitCode::from(USAGE)
+}
+
 /// Prints notes on what was read and on what was `compared`, and on the `rows` that were written.
 fn print_notes(inputs: Inputs<'_>, asked: &Asked, compared: &Comparison, rows: u64) {
     let (rt, layout) = (inputs.rt, &asked.records.layout);
@@ -104,13 +141,13 @@ fn print_notes(inputs: Inputs<'_>, asked: &Asked, compared: &Comparison, rows: u
             print_format_hint(rt, hints);
         }
         print_open(rt, endings.open, names);
-        print_few_keys(rt, asked, rows, hints.has_records);
+        print_few_keys(saved_files(inputs, asked), asked, rows, hints.has_records);
     }
     print_long(rt, endings.long, names);
     print_bad(rt, inputs.notes.bad.count(), &layout.bad_as);
     if let Some(outside) = &compared.outside {
         let words = "heavy: note: these aren't the records that were summarised: ";
-        tell_outside(rt, words, names.name(1), outside, layout.decimals);
+        tell_outside(rt, words, names.input(1), outside, layout.decimals);
     }
 }
 

@@ -1,2 +1,3 @@
 pub mod FileLemmas
+pub mod ReplacingLemmas
 pub mod WordLemmas

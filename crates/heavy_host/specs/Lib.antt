@@ -1,3 +1,4 @@
 pub mod Files
 pub mod Opening
+pub mod Replacing
 pub mod Words

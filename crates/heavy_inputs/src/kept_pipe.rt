@@ -2,7 +2,7 @@
 
 ghost use Rattle.std.specs.Prelude.{◌≡◌, ◌⊎◌, IfErr, ⊤};
 
-use heavy_host::Unread;
+use heavy_host::{Unread, random_name};
 use hh_faults::ToolError;
 use hh_pieces::ReadAt;
 use hh_stream::retrying::Retrying;
@@ -10,7 +10,6 @@ use std::env;
 use std::fs::{self, File, OpenOptions};
 use std::io::{self, Read, Write};
 use std::os::unix::fs::{FileExt, OpenOptionsExt};
-use std::random::RandomSource;
 
 /// How many bytes go to a file at once.
 const COPY_LEN: usize = 65_536;
@@ -84,11 +83,9 @@ pub fn temporary_folder(rt: &HostRuntime) -> io::Result<String> {
 
 /// Gives a path in the temporary folder, with a random number in its name.
 fn temporary_path(rt: &HostRuntime) -> io::Result<String> {
-    let mut random = [0; 8];
-    rt.fill_bytes(&mut random)?;
-    let number = u64::from_le_bytes(random);
+    let name = random_name(rt)?;
     let folder = temporary_folder(rt)?;
-    Ok(format!(in rt.alloc(); "{folder}/heavy-{number:016x}")?)
+    Ok(format!(in rt.alloc(); "{folder}/{name}")?)
 }
 
 /// Makes a file of the temporary folder, and removes its name at once.

@@ -20,8 +20,8 @@ impl RowCount {
         }
     }
 
-    /// Takes the next bytes that were written.
-    fn add(&self, bytes: &[u8]) {
+    /// Takes the next `bytes` that were written.
+    pub fn add(&self, bytes: &[u8]) {
         if let Ok(mut rows) = self.rows.try_borrow_mut() {
             rows.add(bytes);
         }

@@ -19,7 +19,7 @@ use Rattle.hh_rows.specs.declared.output.Form.TheVariants as form
 use Rattle.hh_rows.specs.declared.output.Output.{Output}
 use Rattle.heavy_arguments.specs.CommandLine.{IsProgram, memory_of, name_of, workers_of}
 use Rattle.heavy_arguments.specs.Found.{IsFlag, IsNumber, IsNumberGiven, number_of_kind, text_found}
-use Rattle.heavy_arguments.specs.declared.arguments.TheConstants.{ALLOW_ZERO, BAD_AS, DECIMALS, DELIMITER, DEPTH, EXPLAIN, GREATEST, HEADER, JSON, K, KEY, KEYS, LINES, MEMORY, METHOD, NAMES, NO_QUOTES, ONCE, OUTPUT, PIECES, PREFIX, PROGRESS, RECORDS, SAVED_FILES, SEED, SHARE, SQUEEZE, THRESHOLD, TOP, TREE, UNTIL, WEIGHT, WIDTH, WORKERS}
+use Rattle.heavy_arguments.specs.declared.arguments.TheConstants.{ALLOW_ZERO, BAD_AS, DECIMALS, DELIMITER, DEPTH, EXPLAIN, GREATEST, HEADER, JSON, K, KEY, KEYS, LINES, MEMORY, METHOD, NAMES, NO_QUOTES, ONCE, OUT, OUTPUT, PIECES, PREFIX, PROGRESS, RECORDS, SAVED_FILES, SEED, SHARE, SQUEEZE, THRESHOLD, TOP, TREE, UNTIL, WEIGHT, WIDTH, WORKERS}
 use Rattle.heavy_arguments.specs.declared.options.Argument.{Argument}
 use Rattle.heavy_arguments.specs.declared.verbs.Verb.{Verb}
 use Rattle.heavy_host.specs.Words.{AreAllWords, word_of}
@@ -158,6 +158,7 @@ pub record AsksFor (name : Text) (found : Found) (asked : Asked) : Type 0 where
   pub files : map (λ w. w.items) asked.files.items ≡ all_words found SAVED_FILES.name.now
   pub keys : map (λ w. w.items) asked.keys.items ≡ all_words found KEYS.name.now
   pub records : AreRecordWords found asked.records
+  pub out : option_map (λ w. w.items) asked.out ≡ word_given found OUT.name.now
   pub progress : IsFlag found PROGRESS.name.now asked.tells_progress
   pub explained : IsFlag found EXPLAIN.name.now asked.explains
 

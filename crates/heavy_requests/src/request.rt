@@ -16,8 +16,8 @@ use crate::usage_report::{UsageReport, usage_report_of};
 use clap::ArgMatches;
 use heavy_arguments::arguments::{
     ALLOW_ZERO, BAD_AS, DECIMALS, DELIMITER, DEPTH, EXPLAIN, GREATEST, HEADER, JSON, K, KEY, KEYS,
-    LINES, METHOD, NAMES, NO_QUOTES, ONCE, OUTPUT, PIECES, PREFIX, PROGRESS, RECORDS, SAVED_FILES,
-    SEED, SHARE, SQUEEZE, THRESHOLD, TOP, TREE, UNTIL, WEIGHT, WIDTH,
+    LINES, METHOD, NAMES, NO_QUOTES, ONCE, OUT, OUTPUT, PIECES, PREFIX, PROGRESS, RECORDS,
+    SAVED_FILES, SEED, SHARE, SQUEEZE, THRESHOLD, TOP, TREE, UNTIL, WEIGHT, WIDTH,
 };
 use heavy_arguments::{Named, Verb, command_line};
 use heavy_host::{WordSource, bytes_of, read_words, texts_of};
@@ -55,6 +55,8 @@ pub struct Asked {
     /// The keys that a saved file is asked for. Words are kept as bytes, which need not be UTF-8.
     pub keys: Vec<Vec<u8>>,
     pub records: RecordWords,
+    /// The name of the file that the answer replaces. None is standard output.
+    pub out: Option<Vec<u8>>,
     /// Whether the progress of reading is reported.
     pub tells_progress: bool,
     /// Whether an error message gets a second line, which explains it.
@@ -379,6 +381,7 @@ fn asked_of(alloc: Global, name: &str, found: &ArgMatches) -> Result<Asked, Allo
         files: words(alloc, found, SAVED_FILES.name)?,
         keys: words(alloc, found, KEYS.name)?,
         records: record_words(alloc, found)?,
+        out: word_given(alloc, found, OUT.name)?,
         tells_progress: PROGRESS.is_given(found),
         explains: EXPLAIN.is_given(found),
     })
