@@ -1226,7 +1226,7 @@ class CommandLine(programs.Checks):
         """An unknown letter isn't advised to be a value, but for a key of `ask`."""
         for words, advised in [
             (["report", "-x"], False), (["summarise", "-w", "4"], False), (["table", "-k", "1"], False), (["confirm", "-Hx", "day"], False),
-            (["merge", "-o", "day"], False), (["list", "-a", "day"], False), (["ask", "day", "-a"], True), (["ask", "-n", "day"], True),
+            (["merge", "-q", "day"], False), (["list", "-a", "day"], False), (["ask", "day", "-a"], True), (["ask", "-n", "day"], True),
         ]:
             status, out, err = self.heavy(words)
             letter = next(word for word in words if word[:1] == "-")[-1]

@@ -199,7 +199,7 @@ class NewFiles(programs.Checks):
         """A limit on the size of files, by a fault or by a signal, and a full disk: the file is as it was."""
         path, _ = self.large()
         self.file.write_bytes(OLD)
-        for limit in (0, 1, 65_536, 4_000_000):
+        for limit in (1_000, 65_536, 4_000_000):  # what is printed on standard error is shorter
             ended = programs.run(self.words(["merge", path]), preexec_fn=partial(short_files, limit))
             self.stands(f"files of at most {limit} bytes", ended, (1, NOT_WRITTEN + b"  %s: File too large\n" % bytes(self.file)))
         ended = programs.run(self.words(["merge", path]), preexec_fn=lambda: resource.setrlimit(resource.RLIMIT_FSIZE, (65_536, 65_536)))
