@@ -44,7 +44,8 @@ fn opened_with_another(file: &mut Vec<u8>, place: usize) -> usize {
 fn try_changes(rt: &impl Abort, file: &mut Vec<u8>) {
     for place in 0..file.len() {
         assert_same(rt, opened_with_another(file, place), 0);
-        assert_same(rt, open(&file[..place]).is_ok(), false);
+        let part = file.get(..place).expect(rt, "a part of the file");
+        assert_same(rt, open(part).is_ok(), false);
     }
 }
 
